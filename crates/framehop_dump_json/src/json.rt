@@ -24,7 +24,7 @@ impl Report for Json {
         &self,
         alloc: Global,
         dump: &Dump<'_>,
-        files: &Files,
+        files: &Files<'_>,
         mappings: &[Mapping],
         stacks: &[ReportedStack],
     ) -> Result<Vec<u8>, AllocError> {
@@ -39,7 +39,7 @@ impl Report for Json {
 fn dump_value(
     alloc: Global,
     dump: &Dump<'_>,
-    files: &Files,
+    files: &Files<'_>,
     mappings: &[Mapping],
     stacks: &[ReportedStack],
 ) -> Result<Value, AllocError>

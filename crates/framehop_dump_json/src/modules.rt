@@ -8,7 +8,7 @@ use std::alloc::{AllocError, Global};
 /// Returns the mappings of code of a process, in the order of their addresses, with what was found in their files.
 pub(crate) fn modules_value(
     alloc: Global,
-    files: &Files,
+    files: &Files<'_>,
     mappings: &[Mapping],
 ) -> Result<Value, AllocError> {
     let mut values = Vec::new(alloc);
@@ -21,7 +21,11 @@ pub(crate) fn modules_value(
 }
 
 /// Returns a mapping of a file.
-fn module_value(alloc: Global, mapping: &Mapping, file: &NamedFile) -> Result<Value, AllocError> {
+fn module_value(
+    alloc: Global,
+    mapping: &Mapping,
+    file: &NamedFile<'_>,
+) -> Result<Value, AllocError> {
     let name = name_text(alloc, file.name.as_slice())?;
     let start = hexadecimal(alloc, mapping.start)?;
     let end = hexadecimal(alloc, mapping.end)?;
@@ -36,7 +40,7 @@ fn module_value(alloc: Global, mapping: &Mapping, file: &NamedFile) -> Result<Va
 }
 
 /// Returns whether a file was read and has unwind data.
-fn has_unwind_data(file: &NamedFile) -> bool {
+fn has_unwind_data(file: &NamedFile<'_>) -> bool {
     match &file.object {
         Some(object) => object.has_unwind_data(),
         None => false,
@@ -44,7 +48,7 @@ fn has_unwind_data(file: &NamedFile) -> bool {
 }
 
 /// Returns whether a file was read and has names of functions.
-fn has_names(file: &NamedFile) -> bool {
+fn has_names(file: &NamedFile<'_>) -> bool {
     match &file.object {
         Some(object) => object.has_names(),
         None => false,

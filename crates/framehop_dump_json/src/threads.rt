@@ -16,7 +16,7 @@ use std::alloc::{AllocError, Global};
 pub(crate) fn threads_value(
     alloc: Global,
     threads: &[Thread<'_>],
-    files: &Files,
+    files: &Files<'_>,
     mappings: &[Mapping],
     stacks: &[ReportedStack],
 ) -> Result<Value, AllocError>
@@ -33,7 +33,7 @@ pub(crate) fn threads_value(
 fn thread_value(
     alloc: Global,
     thread: Thread<'_>,
-    files: &Files,
+    files: &Files<'_>,
     mappings: &[Mapping],
     stack: &ReportedStack,
 ) -> Result<Value, AllocError>
@@ -71,7 +71,7 @@ fn end_address(alloc: Global, end: Option<BacktraceEnd>) -> Result<Value, AllocE
 /// Returns frames, the innermost first.
 fn frames_value(
     alloc: Global,
-    files: &Files,
+    files: &Files<'_>,
     mappings: &[Mapping],
     frames: &[ReportedFrame],
 ) -> Result<Value, AllocError>
@@ -88,7 +88,7 @@ fn frames_value(
 fn frame_value(
     alloc: Global,
     number: u64,
-    files: &Files,
+    files: &Files<'_>,
     mappings: &[Mapping],
     frame: ReportedFrame,
 ) -> Result<Value, AllocError>
@@ -121,7 +121,7 @@ fn looked_up(frame: ReportedFrame) -> u64 {
 /// Returns the file that an address (AVMA) is in, and where in it, or null where it is in none.
 fn module_value(
     alloc: Global,
-    files: &Files,
+    files: &Files<'_>,
     mappings: &[Mapping],
     address: u64,
 ) -> Result<Value, AllocError> {

@@ -24,7 +24,7 @@ use std::alloc::{AllocError, Global};
 pub fn explained_text<U: Dumped>(
     alloc: Global,
     dump: &Dump<'_>,
-    files: &Files,
+    files: &Files<'_>,
     process: &Process<U>,
     limit: u32,
     text: &[u8],
@@ -43,7 +43,7 @@ where
 fn threads_notes<U: Dumped>(
     alloc: Global,
     dump: &Dump<'_>,
-    files: &Files,
+    files: &Files<'_>,
     process: &Process<U>,
     limit: u32,
 ) -> Result<Vec<Note>, AllocError>
@@ -77,7 +77,7 @@ where
 fn note_thread<U: Dumped>(
     alloc: Global,
     dump: &Dump<'_>,
-    files: &Files,
+    files: &Files<'_>,
     process: &Process<U>,
     unwind_context: &mut UnwindContext<StoreOnHeap>,
     cache: &mut U::Cache,

@@ -146,8 +146,8 @@ fn file_head<'a>(alloc: Global, head: &'a [u8]) -> Result<FileHead<'a>, AllocErr
 }
 
 /// Returns the first bytes of the files whose code was mapped, by their paths.
-pub(crate) fn heads_of<'a>(alloc: Global, dump: &'a Dump<'a>) -> Result<HeadsByPath<'a>, AllocError>
-    ensures { IfOk result (λ heads. HasHeadsOf (dump_view dump.entry.now).code heads.by_path) }
+pub(crate) fn heads_of<'a>(alloc: Global, dump: &Dump<'a>) -> Result<HeadsByPath<'a>, AllocError>
+    ensures { IfOk result (λ heads. HasHeadsOf (dump_view dump.now).code heads.by_path) }
 {
     HeadsByPath::of_code(alloc, dump.code.as_slice())
 }

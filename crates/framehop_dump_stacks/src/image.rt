@@ -1,7 +1,7 @@
 //! What the memory of a process has of the files that it had mapped: their build ids and their unwind data.
 ghost use Rattle.std.specs.Prelude.{◌≡◌, IfOk, find, option_map};
-ghost use Rattle.framehop_elf.specs.UnwindSections.{sections_view};
 ghost use Rattle.framehop_memory.specs.Memory.{memory_view};
+ghost use Rattle.framehop_symbols.specs.MappedBytes.{mapped_sections_view};
 ghost use Rattle.framehop_dump_stacks.specs.Image.{head_at, segments_in, build_id_in, is_eh_frame_header, memory_at, memory_after, call_frames_at, call_frames_view, range_of, sections_of, sections_in};
 
 use framehop_bytes::section::ExplicitModuleSectionInfo;
@@ -12,6 +12,7 @@ use framehop_elf::error::ElfError;
 use framehop_elf::header::read_file_header;
 use framehop_elf::program_header::{ProgramHeader, read_program_headers};
 use framehop_memory::memory::ProcessMemory;
+use framehop_symbols::mapped_bytes::MappedBytes;
 use std::alloc::{AllocError, Global};
 use std::ops::Range;
 
@@ -38,19 +39,18 @@ pub fn build_id_in<'a>(head: &'a [u8], segments: &[ProgramHeader]) -> &'a [u8]
     }
 }
 
-/// Returns the unwind sections of a file of these first bytes that lies at a base, as memory has them: none where
-/// it has not both `.eh_frame_hdr` and `.eh_frame`.
-pub fn sections_in(
+/// Returns the unwind sections of a file of these first bytes that lies at a base, as memory has them, which lends their
+/// bytes: none where it has not both `.eh_frame_hdr` and `.eh_frame`.
+pub fn sections_in<'m>(
     alloc: Global,
-    memory: &ProcessMemory<'_>,
+    memory: &ProcessMemory<'m>,
     head: &[u8],
     base: u64,
-) -> Result<ExplicitModuleSectionInfo<Vec<u8>>, AllocError>
-    ensures { IfOk result (λ info. sections_view info ≡ sections_in (memory_view memory.now) head.now base) }
+) -> Result<ExplicitModuleSectionInfo<MappedBytes<'m>>, AllocError>
+    ensures { IfOk result (λ info. mapped_sections_view info ≡ sections_in (memory_view memory.now) head.now base) }
 {
     let segments = segments_in(alloc, head)?;
-    let found = call_frames_at(memory, segments.as_slice(), base);
-    sections_of(alloc, found)
+    Ok(sections_of(call_frames_at(memory, segments.as_slice(), base)))
 }
 
 /// Returns the program headers in the first bytes of a file: none where they can't be read.
@@ -136,21 +136,26 @@ fn memory_after<'a>(memory: &ProcessMemory<'a>, base: u64, svma: u64) -> Option<
     memory.bytes_from(avma)
 }
 
-/// Returns what an unwinder is to know of call frame sections, with copies of them.
-fn sections_of(
-    alloc: Global,
-    found: Option<CallFrames<'_>>,
-) -> Result<ExplicitModuleSectionInfo<Vec<u8>>, AllocError>
-    ensures { IfOk result (λ info. sections_view info ≡ sections_of (option_map call_frames_view found.entry)) }
+/// Returns what an unwinder is to know of call frame sections, whose bytes are lent.
+fn sections_of<'m>(found: Option<CallFrames<'m>>) -> ExplicitModuleSectionInfo<MappedBytes<'m>>
+    ensures { mapped_sections_view result ≡ sections_of (option_map call_frames_view found.entry) }
 {
-    let mut info: ExplicitModuleSectionInfo<Vec<u8>> = ExplicitModuleSectionInfo::default();
-    if let Some(found) = found {
-        info.eh_frame_svma = Some(range_of(found.frames_svma, found.frames));
-        info.eh_frame = Some(Vec::from_slice(alloc, found.frames)?);
-        info.eh_frame_hdr_svma = Some(range_of(found.header_svma, found.header));
-        info.eh_frame_hdr = Some(Vec::from_slice(alloc, found.header)?);
+    ExplicitModuleSectionInfo {
+        base_svma: 0,
+        text_svma: None,
+        text: None,
+        stubs_svma: None,
+        stub_helper_svma: None,
+        got_svma: None,
+        unwind_info: None,
+        eh_frame_svma: found.map(|found| range_of(found.frames_svma, found.frames)),
+        eh_frame: found.map(|found| MappedBytes::Lent(found.frames)),
+        eh_frame_hdr_svma: found.map(|found| range_of(found.header_svma, found.header)),
+        eh_frame_hdr: found.map(|found| MappedBytes::Lent(found.header)),
+        debug_frame: None,
+        text_segment_svma: None,
+        text_segment: None,
     }
-    Ok(info)
 }
 
 /// Returns where bytes are from an SVMA on. What ends above the last address ends at it.

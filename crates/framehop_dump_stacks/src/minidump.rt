@@ -478,11 +478,11 @@ fn separator(platform: u32) -> u8
 }
 
 /// Reads the files of modules, each once.
-pub fn read_module_files<S: FileSource>(
+pub fn read_module_files<'m, S: FileSource>(
     alloc: Global,
     modules: &[LoadedModule],
     source: &S,
-) -> Result<Files, AllocError>
+) -> Result<Files<'m>, AllocError>
     ensures { IfOk result (λ files. AreModuleFiles (S.source source.now) (map loaded_view modules.now) files) }
 {
     let mut files = Files::new(alloc)?;
@@ -496,7 +496,7 @@ pub fn read_module_files<S: FileSource>(
 fn add_file<S: FileSource>(
     alloc: Global,
     source: &S,
-    files: &mut Files,
+    files: &mut Files<'_>,
     module: &LoadedModule,
 ) -> Result<(), AllocError>
     ensures { OnOk result (IsAdded (S.source source.now) (loaded_view «module».now).name (loaded_view «module».now).build_id
@@ -511,7 +511,7 @@ fn add_file<S: FileSource>(
 pub(crate) fn with_code<'a>(
     alloc: Global,
     dump: Dump<'a>,
-    files: &Files,
+    files: &Files<'_>,
     modules: &'a [LoadedModule],
 ) -> Result<Dump<'a>, AllocError>
     ensures { IfOk result (λ whole. dump_view whole ≡ dump_with (dump_view dump.entry, map loaded_view modules.entry.now) files.now) }
@@ -525,7 +525,7 @@ pub(crate) fn with_code<'a>(
 pub fn code_of<'a>(
     alloc: Global,
     memory: &ProcessMemory<'a>,
-    files: &Files,
+    files: &Files<'_>,
     modules: &'a [LoadedModule],
 ) -> Result<Vec<MappedCode<'a>>, AllocError>
     ensures { IfOk result (λ code. map mapped_code_view code.items
@@ -542,7 +542,7 @@ pub fn code_of<'a>(
 fn push_module<'a>(
     alloc: Global,
     memory: &ProcessMemory<'a>,
-    files: &Files,
+    files: &Files<'_>,
     code: &mut Vec<MappedCode<'a>>,
     module: &'a LoadedModule,
 ) -> Result<(), AllocError>
@@ -557,7 +557,7 @@ fn push_module<'a>(
 }
 
 /// Returns the segments of an ELF file that was read for a module. Only one with a path of Unix is an ELF file.
-fn object_segments<'a>(files: &'a Files, module: &LoadedModule) -> &'a [Segment]
+fn object_segments<'a>(files: &'a Files<'_>, module: &LoadedModule) -> &'a [Segment]
     ensures { result.now ≡ object_segments (is_unix_path (loaded_view «module».now).name)
         (object_called files.entry.now (loaded_view «module».now).name) }
 {

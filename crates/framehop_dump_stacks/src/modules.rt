@@ -1,8 +1,8 @@
 //! The files whose code a process had mapped, and the modules of their mappings.
 ghost use Rattle.std.specs.Prelude.{◌≡◌, IfOk, IfErr, slice_get};
-ghost use Rattle.framehop_elf.specs.UnwindSections.{sections_view};
 ghost use Rattle.framehop_processes.specs.Process.{HasModules};
 ghost use Rattle.framehop_symbols.specs.Files.{placed_at};
+ghost use Rattle.framehop_symbols.specs.MappedBytes.{mapped_sections_view};
 ghost use Rattle.framehop_dump_stacks.specs.Dump.{mapped_code_view, dump_view, head_of};
 ghost use Rattle.framehop_dump_stacks.specs.Heads.{HasHeadsOf};
 ghost use Rattle.framehop_dump_stacks.specs.Ended.{drawn_in, MayEnd};
@@ -17,14 +17,15 @@ use framehop::generations::Generations;
 use framehop::section::ExplicitModuleSectionInfo;
 use framehop_processes::{Mapping, ModuleMaker, Process, ProcessUnwinder};
 use framehop_symbols::files::{FileSource, FileUnwinder, Files, placed_at};
+use framehop_symbols::mapped_bytes::MappedBytes;
 use std::alloc::{AllocError, Global};
 
 /// Reads the files whose code is mapped, each once.
-pub fn read_files<S: FileSource>(
+pub fn read_files<'m, S: FileSource>(
     alloc: Global,
     dump: &Dump<'_>,
     source: &S,
-) -> Result<Files, AllocError>
+) -> Result<Files<'m>, AllocError>
     ensures { IfOk result (λ files.
         AreFilesOf (S.source source.now) (dump_view dump.now) files) }
 {
@@ -35,19 +36,19 @@ pub fn read_files<S: FileSource>(
     Ok(files)
 }
 
-/// Makes the modules of mappings, by the files of a dump and by its memory.
+/// Makes the modules of mappings, by the files of a dump and by its memory, which lends its bytes for `'m`.
 #[derive(Drop)]
-pub struct DumpModules<'a, 'b> {
-    pub dump: &'a Dump<'a>,
-    pub files: &'b Files,
+pub struct DumpModules<'a, 'm> {
+    pub dump: &'a Dump<'m>,
+    pub files: &'a Files<'m>,
     /// The first bytes of the files whose code the dump has.
-    pub heads: HeadsByPath<'a>,
+    pub heads: HeadsByPath<'m>,
     ghost known: { HasHeadsOf (dump_view dump.now).code heads.by_path },
 }
 
-impl<'a> DumpModules<'a, '_> {
+impl<'m> DumpModules<'_, 'm> {
     /// Returns the first bytes of a file whose code was mapped, as far as memory has them.
-    pub fn head_of(&self, path: &[u8]) -> &'a [u8]
+    pub fn head_of(&self, path: &[u8]) -> &'m [u8]
         ensures { result.now ≡ head_of (dump_view self.now.dump.now) path.now }
     {
         self.heads.head_at(path)
@@ -58,8 +59,8 @@ impl<'a> DumpModules<'a, '_> {
         &self,
         alloc: Global,
         mapping: &Mapping,
-    ) -> Result<ExplicitModuleSectionInfo<Vec<u8>>, AllocError>
-        ensures { IfOk result (λ info. sections_view info ≡ sections_by (dump_view self.now.dump.now) (slice_get self.now.files.now.list.items mapping.now.file) mapping.now.base_avma) }
+    ) -> Result<ExplicitModuleSectionInfo<MappedBytes<'m>>, AllocError>
+        ensures { IfOk result (λ info. mapped_sections_view info ≡ sections_by (dump_view self.now.dump.now) (slice_get self.now.files.now.list.items mapping.now.file) mapping.now.base_avma) }
     {
         match self.files.get(mapping.file) {
             Some(file) => {
@@ -75,7 +76,7 @@ impl<'a> DumpModules<'a, '_> {
         &self,
         alloc: Global,
         mapping: &Mapping,
-    ) -> Result<Module<Vec<u8>>, AllocError>
+    ) -> Result<Module<MappedBytes<'m>>, AllocError>
         ensures { IfOk result (λ made. made ≡ placed_at (module_with (sections_by (dump_view self.now.dump.now)
             (slice_get self.now.files.now.list.items mapping.now.file) mapping.now.base_avma)) mapping.now) }
     {
@@ -84,7 +85,11 @@ impl<'a> DumpModules<'a, '_> {
     }
 
     /// Returns the module of a mapping.
-    fn module_at(&self, alloc: Global, mapping: &Mapping) -> Result<Module<Vec<u8>>, AllocError>
+    fn module_at(
+        &self,
+        alloc: Global,
+        mapping: &Mapping,
+    ) -> Result<Module<MappedBytes<'m>>, AllocError>
         ensures { IfOk result (λ made. made ≡ module_at (dump_view self.now.dump.now) self.now.files.now mapping.now) }
     {
         if !mapping.has_sections {
@@ -99,11 +104,11 @@ impl<'a> DumpModules<'a, '_> {
 }
 
 /// Returns a module with these sections that lies at no address.
-fn module_with(
+fn module_with<'m>(
     alloc: Global,
-    info: ExplicitModuleSectionInfo<Vec<u8>>,
-) -> Result<Module<Vec<u8>>, AllocError>
-    ensures { IfOk result (λ made. made ≡ module_with (sections_view info)) }
+    info: ExplicitModuleSectionInfo<MappedBytes<'m>>,
+) -> Result<Module<MappedBytes<'m>>, AllocError>
+    ensures { IfOk result (λ made. made ≡ module_with (mapped_sections_view info.entry)) }
 {
     match Module::new(alloc, String::new(alloc), 0..0, 0, info) {
         Ok(made) => Ok(made),
@@ -111,7 +116,7 @@ fn module_with(
     }
 }
 
-impl<U: FileUnwinder> ModuleMaker<U> for DumpModules<'_, '_> {
+impl<'m, U: FileUnwinder<MappedBytes<'m>>> ModuleMaker<U> for DumpModules<'_, 'm> {
     ghost use Rattle.std.specs.Prelude.{refl};
 
     ghost module_of = { λ maker mapping. module_at (dump_view maker.dump.now) maker.files.now mapping };
@@ -120,7 +125,11 @@ impl<U: FileUnwinder> ModuleMaker<U> for DumpModules<'_, '_> {
 
     ghost end_is = { λ maker mapping. refl };
 
-    fn make_module(&self, alloc: Global, mapping: &Mapping) -> Result<Module<Vec<u8>>, AllocError> {
+    fn make_module(
+        &self,
+        alloc: Global,
+        mapping: &Mapping,
+    ) -> Result<Module<MappedBytes<'m>>, AllocError> {
         self.module_at(alloc, mapping)
     }
 }
@@ -130,7 +139,7 @@ pub fn map_files<U: ProcessUnwinder, M: ModuleMaker<U>>(
     alloc: Global,
     maker: &M,
     dump: &Dump<'_>,
-    files: &Files,
+    files: &Files<'_>,
 ) -> Result<Process<U>, DumpStacksError>
 where
     U::Module: Drop,
@@ -149,7 +158,7 @@ where
 }
 
 /// Returns the mapping of mapped code, if it has an address.
-fn mapping_in(files: &Files, code: MappedCode<'_>) -> Option<Mapping>
+fn mapping_in(files: &Files<'_>, code: MappedCode<'_>) -> Option<Mapping>
     ensures { result ≡ mapping_in files.now (mapped_code_view code.entry) }
 {
     if code.end <= code.start {
@@ -162,7 +171,7 @@ fn mapping_in(files: &Files, code: MappedCode<'_>) -> Option<Mapping>
 
 /// Returns where the stated address 0 of the file of mapped code is (AVMA): as it is known, by what was read of
 /// the file, or else by what memory has of it.
-fn base_in(files: &Files, number: u32, code: MappedCode<'_>) -> Option<u64>
+fn base_in(files: &Files<'_>, number: u32, code: MappedCode<'_>) -> Option<u64>
     ensures { result ≡ base_in files.now number (mapped_code_view code.entry) }
 {
     if let Some(base) = code.base {

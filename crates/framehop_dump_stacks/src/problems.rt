@@ -21,10 +21,10 @@ const FIRST_OF_KERNEL: u64 = 0x8000_0000_0000_0000;
 
 /// Returns what is said of a dump: that its file is cut short, that it is of a 32-bit process of Windows, and of each file of
 /// which nothing was read, that lacks unwind data or names, or whose unwind data is compressed.
-pub fn said_text(
+pub fn said_text<'m>(
     alloc: Global,
-    dump: &Dump<'_>,
-    files: &Files,
+    dump: &Dump<'m>,
+    files: &Files<'m>,
     mappings: &[Mapping],
 ) -> Result<Vec<u8>, AllocError>
     ensures { IfOk result (λ text. IsSaid (dump_view dump.now) files.now mappings.now text.items) }
@@ -100,10 +100,10 @@ fn wow64_text(wow64: bool) -> &'static str
 
 /// Returns a line for each file of which nothing was read, in the order of the files: its name, why, and whether memory
 /// has its unwind data; and for each that lacks unwind data or names, or whose unwind data is compressed.
-fn problems_text(
+fn problems_text<'m>(
     alloc: Global,
-    dump: &Dump<'_>,
-    files: &Files,
+    dump: &Dump<'m>,
+    files: &Files<'m>,
     mappings: &[Mapping],
 ) -> Result<Vec<u8>, AllocError>
     ensures { IfOk result (λ text. AreProblems (dump_view dump.now) files.now mappings.now text.items) }
@@ -123,7 +123,7 @@ fn problem_line(
     alloc: Global,
     modules: &DumpModules<'_, '_>,
     mappings: &[Mapping],
-    file: &NamedFile,
+    file: &NamedFile<'_>,
 ) -> Result<Vec<u8>, AllocError>
     ensures { IfOk result (λ line. IsLineOf (dump_view modules.now.dump.now) modules.now.files.now mappings.now file.now.name.items file.now.object file.now.problem line.items) }
 {
@@ -135,7 +135,7 @@ fn problem_line(
 }
 
 /// Returns the line of a file that was read: none where it lacks nothing.
-fn lack_line(alloc: Global, name: &[u8], object: &ObjectFile) -> Result<Vec<u8>, AllocError>
+fn lack_line(alloc: Global, name: &[u8], object: &ObjectFile<'_>) -> Result<Vec<u8>, AllocError>
     ensures { IfOk result (λ line. line.items ≡ lack_line name.now
         (lack_text (is_unwind_data object.now.«module».unwind_data) (has_names object.now.symbols.items))) }
 {
@@ -144,7 +144,7 @@ fn lack_line(alloc: Global, name: &[u8], object: &ObjectFile) -> Result<Vec<u8>,
 }
 
 /// Returns the lines of a file that was read: what it lacks, and that its `.debug_frame` is compressed.
-fn object_lines(alloc: Global, name: &[u8], object: &ObjectFile) -> Result<Vec<u8>, AllocError>
+fn object_lines(alloc: Global, name: &[u8], object: &ObjectFile<'_>) -> Result<Vec<u8>, AllocError>
     ensures { IfOk result (λ lines. lines.items ≡ object_lines name.now object.now) }
 {
     let mut lines = lack_line(alloc, name, object)?;

@@ -1,5 +1,5 @@
 //! From the bytes of a core file or a minidump to the stacks of its threads.
-ghost use Rattle.std.specs.Prelude.{◌≡◌, ◌⊎◌, List, ℕ, Ok, Err, IfOk, IfErr, OnOk};
+ghost use Rattle.std.specs.Prelude.{◌≡◌, ◌⊎◌, List, ℕ, map, Ok, Err, IfOk, IfErr, OnOk};
 ghost use Rattle.std.specs.Io.KnownBytes.{Appends};
 ghost use Rattle.framehop_coredump.specs.declared.error.CoreFileError.{CoreFileError};
 ghost use Rattle.framehop_minidump.specs.declared.error.MinidumpError.{MinidumpError};
@@ -7,7 +7,7 @@ ghost use Rattle.framehop_symbols.specs.declared.files.Files.{Files};
 ghost use Rattle.framehop_dump_stacks.specs.CoreDump.{core_dump_of};
 ghost use Rattle.framehop_dump_stacks.specs.Dump.{DumpView, dump_view};
 ghost use Rattle.framehop_dump_stacks.specs.Ended.{drawn_in, MayEnd, MayEndWith, MayEndWithModules};
-ghost use Rattle.framehop_dump_stacks.specs.Minidump.{LoadedView, minidump_of, AreModuleFiles, dump_with};
+ghost use Rattle.framehop_dump_stacks.specs.Minidump.{LoadedView, loaded_view, minidump_of, AreModuleFiles, dump_with};
 ghost use Rattle.framehop_dump_stacks.specs.Modules.{AreFilesOf, mappings_in};
 ghost use Rattle.framehop_dump_stacks.specs.Noted.{AreThreadNotes, AreNotesBy, AreNotesOf};
 ghost use Rattle.framehop_dump_stacks.specs.Printed.{blocks_of, text_by, text_of};
@@ -21,7 +21,7 @@ use crate::error::DumpStacksError;
 use crate::explain::explained_text;
 use crate::heads::heads_of;
 use crate::machine::Dumped;
-use crate::minidump::{dump_in, read_module_files, read_parts, with_code};
+use crate::minidump::{LoadedModule, dump_in, read_module_files, read_parts, with_code};
 use crate::modules::{DumpModules, map_files, read_files};
 use crate::problems::said_text;
 use crate::text::threads_text;
@@ -31,6 +31,7 @@ use framehop::x86_64::UnwinderX86_64;
 use framehop_coredump::core_file::Machine;
 use framehop_processes::{ModuleMaker, Process};
 use framehop_symbols::files::{FileSource, Files};
+use framehop_symbols::mapped_bytes::MappedBytes;
 use std::alloc::{AllocError, Global};
 use std::io::Write;
 
@@ -123,6 +124,30 @@ pub fn write_minidump_stacks<S: FileSource, W: Write, E: Write>(
     let parts = read_parts(alloc, file)?;
     let dump = dump_in(alloc, file, &parts)?;
     let modules = parts.modules.as_slice();
+    write_minidump(alloc, dump, modules, source, limit, explain, out, err)?;
+    Ok(())
+}
+
+/// Writes the stacks of the threads of a minidump that was read, which has these modules.
+fn write_minidump<'a, S: FileSource, W: Write, E: Write>(
+    alloc: Global,
+    dump: Dump<'a>,
+    modules: &'a [LoadedModule],
+    source: &S,
+    limit: u32,
+    explain: bool,
+    out: &mut W,
+    err: &mut E,
+) -> Result<(), DumpStacksError>
+    ensures printed { OnOk result (let minidump : DumpView × List LoadedView = (dump_view dump.entry, map loaded_view modules.entry.now) in
+        (files : Files) × AreModuleFiles (S.source source.now) minidump.1 files
+        × ((shown : List ℕ) × IsShown explain (AreNotesOf limit (dump_with minidump files) files)
+        (text_of limit (dump_with minidump files) files) shown
+        × Appends (W.contents out.old) (W.contents out.new) shown)
+        × ((said : List ℕ) × IsSaid (dump_with minidump files) files (mappings_in (dump_with minidump files) files) said
+        × Appends (E.contents err.old) (E.contents err.new) said)) }
+    ensures refused { IfErr result (MayEndWithModules (S.source source.now) (dump_view dump.entry, map loaded_view modules.entry.now)) }
+{
     let files = read_module_files(alloc, modules, source)?;
     let whole = with_code(alloc, dump, &files, modules)?;
     write_dump(alloc, &whole, &files, limit, explain, out, err)?;
@@ -130,10 +155,10 @@ pub fn write_minidump_stacks<S: FileSource, W: Write, E: Write>(
 }
 
 /// Writes the stacks of all threads, by the unwinder of their machine.
-fn write_dump<W: Write, E: Write>(
+fn write_dump<'m, W: Write, E: Write>(
     alloc: Global,
-    dump: &Dump<'_>,
-    files: &Files,
+    dump: &Dump<'m>,
+    files: &Files<'m>,
     limit: u32,
     explain: bool,
     out: &mut W,
@@ -151,14 +176,14 @@ fn write_dump<W: Write, E: Write>(
     let maker = DumpModules { dump, files, heads };
     match dump.machine {
         Machine::X86_64 => write_threads::<
-            UnwinderX86_64<Vec<u8>, MayAllocateDuringUnwind>,
-            DumpModules<'_, '_>,
+            UnwinderX86_64<MappedBytes<'m>, MayAllocateDuringUnwind>,
+            DumpModules<'_, 'm>,
             W,
             E,
         >(alloc, &maker, dump, files, limit, explain, out, err),
         Machine::Aarch64 => write_threads::<
-            UnwinderAarch64<Vec<u8>, MayAllocateDuringUnwind>,
-            DumpModules<'_, '_>,
+            UnwinderAarch64<MappedBytes<'m>, MayAllocateDuringUnwind>,
+            DumpModules<'_, 'm>,
             W,
             E,
         >(alloc, &maker, dump, files, limit, explain, out, err),
@@ -166,11 +191,11 @@ fn write_dump<W: Write, E: Write>(
 }
 
 /// Writes the stacks of all threads.
-fn write_threads<U: Dumped, M: ModuleMaker<U>, W: Write, E: Write>(
+fn write_threads<'m, U: Dumped, M: ModuleMaker<U>, W: Write, E: Write>(
     alloc: Global,
     maker: &M,
-    dump: &Dump<'_>,
-    files: &Files,
+    dump: &Dump<'m>,
+    files: &Files<'m>,
     limit: u32,
     explain: bool,
     out: &mut W,
@@ -200,7 +225,7 @@ where
 fn shown_text<U: Dumped>(
     alloc: Global,
     dump: &Dump<'_>,
-    files: &Files,
+    files: &Files<'_>,
     process: &Process<U>,
     limit: u32,
     explain: bool,

@@ -56,7 +56,7 @@ pub trait Report {
         &self,
         alloc: Global,
         dump: &Dump<'_>,
-        files: &Files,
+        files: &Files<'_>,
         mappings: &[Mapping],
         stacks: &[ReportedStack],
     ) -> Result<Vec<u8>, AllocError>
@@ -69,7 +69,7 @@ pub trait Report {
 pub(crate) fn stacks_of<U: Dumped>(
     alloc: Global,
     dump: &Dump<'_>,
-    files: &Files,
+    files: &Files<'_>,
     process: &Process<U>,
     limit: u32,
 ) -> Result<Vec<ReportedStack>, AllocError>
@@ -102,7 +102,7 @@ fn push_stack<U: Dumped>(
     alloc: Global,
     stacks: &mut Vec<ReportedStack>,
     dump: &Dump<'_>,
-    files: &Files,
+    files: &Files<'_>,
     process: &Process<U>,
     unwind_context: &mut UnwindContext<StoreOnHeap>,
     cache: &mut U::Cache,

@@ -1,12 +1,12 @@
 //! From the bytes of a core file or a minidump to a report of its stacks.
-ghost use Rattle.std.specs.Prelude.{◌≡◌, ◌⊎◌, List, ℕ, Ok, Err, IfOk, IfErr, OnOk};
+ghost use Rattle.std.specs.Prelude.{◌≡◌, ◌⊎◌, List, ℕ, map, Ok, Err, IfOk, IfErr, OnOk};
 ghost use Rattle.std.specs.Io.KnownBytes.{Appends};
 ghost use Rattle.framehop_coredump.specs.declared.error.CoreFileError.{CoreFileError};
 ghost use Rattle.framehop_minidump.specs.declared.error.MinidumpError.{MinidumpError};
 ghost use Rattle.framehop_symbols.specs.declared.files.Files.{Files};
 ghost use Rattle.framehop_dump_stacks.specs.CoreDump.{core_dump_of};
 ghost use Rattle.framehop_dump_stacks.specs.Dump.{DumpView, dump_view};
-ghost use Rattle.framehop_dump_stacks.specs.Minidump.{LoadedView, minidump_of, AreModuleFiles, dump_with};
+ghost use Rattle.framehop_dump_stacks.specs.Minidump.{LoadedView, loaded_view, minidump_of, AreModuleFiles, dump_with};
 ghost use Rattle.framehop_dump_stacks.specs.Modules.{AreFilesOf, mappings_in};
 ghost use Rattle.framehop_dump_stacks.specs.Problems.{IsSaid};
 ghost use Rattle.framehop_dump_stacks.specs.Refusal.{of_core_file, of_minidump};
@@ -17,7 +17,7 @@ use crate::dump::Dump;
 use crate::error::DumpStacksError;
 use crate::heads::heads_of;
 use crate::machine::Dumped;
-use crate::minidump::{dump_in, read_module_files, read_parts, with_code};
+use crate::minidump::{LoadedModule, dump_in, read_module_files, read_parts, with_code};
 use crate::modules::{DumpModules, map_files, read_files};
 use crate::problems::said_text;
 use crate::report::{Report, stacks_of};
@@ -27,6 +27,7 @@ use framehop::x86_64::UnwinderX86_64;
 use framehop_coredump::core_file::Machine;
 use framehop_processes::{ModuleMaker, Process};
 use framehop_symbols::files::{FileSource, Files};
+use framehop_symbols::mapped_bytes::MappedBytes;
 use std::alloc::Global;
 use std::io::Write;
 
@@ -114,6 +115,29 @@ pub fn report_minidump_stacks<S: FileSource, R: Report, W: Write, E: Write>(
     let parts = read_parts(alloc, file)?;
     let dump = dump_in(alloc, file, &parts)?;
     let modules = parts.modules.as_slice();
+    report_minidump(alloc, dump, modules, source, limit, report, out, err)?;
+    Ok(())
+}
+
+/// Writes a report of the stacks of a minidump that was read, which has these modules.
+fn report_minidump<'a, S: FileSource, R: Report, W: Write, E: Write>(
+    alloc: Global,
+    dump: Dump<'a>,
+    modules: &'a [LoadedModule],
+    source: &S,
+    limit: u32,
+    report: &R,
+    out: &mut W,
+    err: &mut E,
+) -> Result<(), DumpStacksError>
+    ensures { OnOk result (let minidump : DumpView × List LoadedView = (dump_view dump.entry, map loaded_view modules.entry.now) in
+        (files : Files) × AreModuleFiles (S.source source.now) minidump.1 files
+        × ((text : List ℕ) × R.makes report.now (dump_with minidump files) files
+        (mappings_in (dump_with minidump files) files) (stacks_in limit (dump_with minidump files) files) text
+        × Appends (W.contents out.old) (W.contents out.new) text)
+        × ((said : List ℕ) × IsSaid (dump_with minidump files) files (mappings_in (dump_with minidump files) files) said
+        × Appends (E.contents err.old) (E.contents err.new) said)) }
+{
     let files = read_module_files(alloc, modules, source)?;
     let whole = with_code(alloc, dump, &files, modules)?;
     report_dump(alloc, &whole, &files, limit, report, out, err)?;
@@ -121,10 +145,10 @@ pub fn report_minidump_stacks<S: FileSource, R: Report, W: Write, E: Write>(
 }
 
 /// Writes a report of all threads, by the unwinder of their machine.
-fn report_dump<R: Report, W: Write, E: Write>(
+fn report_dump<'m, R: Report, W: Write, E: Write>(
     alloc: Global,
-    dump: &Dump<'_>,
-    files: &Files,
+    dump: &Dump<'m>,
+    files: &Files<'m>,
     limit: u32,
     report: &R,
     out: &mut W,
@@ -141,15 +165,15 @@ fn report_dump<R: Report, W: Write, E: Write>(
     let maker = DumpModules { dump, files, heads };
     match dump.machine {
         Machine::X86_64 => report_threads::<
-            UnwinderX86_64<Vec<u8>, MayAllocateDuringUnwind>,
-            DumpModules<'_, '_>,
+            UnwinderX86_64<MappedBytes<'m>, MayAllocateDuringUnwind>,
+            DumpModules<'_, 'm>,
             R,
             W,
             E,
         >(alloc, &maker, dump, files, limit, report, out, err),
         Machine::Aarch64 => report_threads::<
-            UnwinderAarch64<Vec<u8>, MayAllocateDuringUnwind>,
-            DumpModules<'_, '_>,
+            UnwinderAarch64<MappedBytes<'m>, MayAllocateDuringUnwind>,
+            DumpModules<'_, 'm>,
             R,
             W,
             E,
@@ -158,11 +182,11 @@ fn report_dump<R: Report, W: Write, E: Write>(
 }
 
 /// Writes a report of all threads.
-fn report_threads<U: Dumped, M: ModuleMaker<U>, R: Report, W: Write, E: Write>(
+fn report_threads<'m, U: Dumped, M: ModuleMaker<U>, R: Report, W: Write, E: Write>(
     alloc: Global,
     maker: &M,
-    dump: &Dump<'_>,
-    files: &Files,
+    dump: &Dump<'m>,
+    files: &Files<'m>,
     limit: u32,
     report: &R,
     out: &mut W,

@@ -30,7 +30,7 @@ use std::alloc::{AllocError, Global};
 pub fn walk_thread<U: Dumped>(
     alloc: Global,
     dump: &Dump<'_>,
-    files: &Files,
+    files: &Files<'_>,
     process: &Process<U>,
     unwind_context: &mut UnwindContext<StoreOnHeap>,
     cache: &mut U::Cache,

@@ -25,7 +25,7 @@ use std::alloc::{AllocError, Global};
 pub fn threads_text<U: Dumped>(
     alloc: Global,
     dump: &Dump<'_>,
-    files: &Files,
+    files: &Files<'_>,
     process: &Process<U>,
     limit: u32,
 ) -> Result<Vec<u8>, AllocError>
@@ -57,7 +57,7 @@ fn push_thread<U: Dumped>(
     alloc: Global,
     text: &mut Vec<u8>,
     dump: &Dump<'_>,
-    files: &Files,
+    files: &Files<'_>,
     process: &Process<U>,
     unwind_context: &mut UnwindContext<StoreOnHeap>,
     cache: &mut U::Cache,
@@ -165,7 +165,7 @@ pub fn reason_text(alloc: Global, cause: Cause) -> Result<String, AllocError>
 fn thread_lines<U: Dumped>(
     alloc: Global,
     dump: &Dump<'_>,
-    files: &Files,
+    files: &Files<'_>,
     process: &Process<U>,
     unwind_context: &mut UnwindContext<StoreOnHeap>,
     cache: &mut U::Cache,

@@ -34,7 +34,7 @@ pub fn printed_name(alloc: Global, name: &[u8]) -> Result<Vec<u8>, AllocError>
 /// in order. Only the frames before the first that is not sure are in it, where `sure` asks for that.
 pub fn folded_line<R: Copy>(
     alloc: Global,
-    files: &Files,
+    files: &Files<'_>,
     mappings: &[Mapping],
     name: &[u8],
     stack: &Stack<R>,
@@ -88,7 +88,7 @@ fn is_sure(found: FoundBy) -> bool
 /// order.
 fn line_of_part<R: Copy>(
     alloc: Global,
-    files: &Files,
+    files: &Files<'_>,
     mappings: &[Mapping],
     name: &[u8],
     part: &[StackFrame<R>],
@@ -130,7 +130,7 @@ fn push_end(line: &mut Vec<u8>, end: BacktraceEnd) -> Result<(), AllocError>
 fn push_frames<R: Copy>(
     alloc: Global,
     line: &mut Vec<u8>,
-    files: &Files,
+    files: &Files<'_>,
     mappings: &[Mapping],
     frames: &[StackFrame<R>],
 ) -> Result<(), AllocError>
@@ -149,7 +149,7 @@ fn push_frames<R: Copy>(
 fn push_frame<R: Copy>(
     alloc: Global,
     line: &mut Vec<u8>,
-    files: &Files,
+    files: &Files<'_>,
     mappings: &[Mapping],
     frame: &StackFrame<R>,
 ) -> Result<(), AllocError>
@@ -221,7 +221,7 @@ fn push_mark(line: &mut Vec<u8>, name: &str) -> Result<(), AllocError>
 /// Returns the lines of a stack's frames and of its end, by its process's mappings in order.
 pub fn frames_block<R: Copy>(
     alloc: Global,
-    files: &Files,
+    files: &Files<'_>,
     mappings: &[Mapping],
     stack: &Stack<R>,
 ) -> Result<Vec<u8>, AllocError>
@@ -239,7 +239,7 @@ pub fn frames_block<R: Copy>(
 fn push_frame_lines<R: Copy>(
     alloc: Global,
     block: &mut Vec<u8>,
-    files: &Files,
+    files: &Files<'_>,
     mappings: &[Mapping],
     frames: &[StackFrame<R>],
 ) -> Result<(), AllocError>
@@ -258,7 +258,7 @@ fn push_frame_lines<R: Copy>(
 pub(crate) fn push_frame_line<R: Copy>(
     alloc: Global,
     block: &mut Vec<u8>,
-    files: &Files,
+    files: &Files<'_>,
     mappings: &[Mapping],
     frame: &StackFrame<R>,
 ) -> Result<(), AllocError>

@@ -61,8 +61,8 @@ pub trait Steps: ProcessUnwinder + BacktraceUnwinder + Rows {
     /// # Errors
     ///
     /// An allocation failed. With limits of rows none is made.
-    fn row_in<'a, S: UnwindContextStorage>(
-        module: &'a Module<Vec<u8>>,
+    fn row_in<'a, E: SectionBytes + Drop, S: UnwindContextStorage>(
+        module: &'a Module<E>,
         unwind_context: &mut UnwindContext<S>,
         lookup: Lookup,
     ) -> Result<RowFinding<'a>, AllocError>
@@ -121,12 +121,12 @@ impl<D: SectionBytes + Drop> Steps for UnwinderX86_64<D, MayAllocateDuringUnwind
         all_columns(&start.regs)
     }
 
-    fn row_in<'a, S: UnwindContextStorage>(
-        module: &'a Module<Vec<u8>>,
+    fn row_in<'a, E: SectionBytes + Drop, S: UnwindContextStorage>(
+        module: &'a Module<E>,
         unwind_context: &mut UnwindContext<S>,
         lookup: Lookup,
     ) -> Result<RowFinding<'a>, AllocError> {
-        row_in_module::<Vec<u8>, ArchX86_64, S>(module, unwind_context, lookup)
+        row_in_module::<E, ArchX86_64, S>(module, unwind_context, lookup)
     }
 
     fn frame_note<M: Words>(
@@ -166,12 +166,12 @@ impl<D: SectionBytes + Drop> Steps for UnwinderAarch64<D, MayAllocateDuringUnwin
         Self::columns(start.pc, &start.regs)
     }
 
-    fn row_in<'a, S: UnwindContextStorage>(
-        module: &'a Module<Vec<u8>>,
+    fn row_in<'a, E: SectionBytes + Drop, S: UnwindContextStorage>(
+        module: &'a Module<E>,
         unwind_context: &mut UnwindContext<S>,
         lookup: Lookup,
     ) -> Result<RowFinding<'a>, AllocError> {
-        row_in_module::<Vec<u8>, ArchAarch64, S>(module, unwind_context, lookup)
+        row_in_module::<E, ArchAarch64, S>(module, unwind_context, lookup)
     }
 
     fn frame_note<M: Words>(

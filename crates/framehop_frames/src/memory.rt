@@ -31,13 +31,13 @@ pub trait KnownMemory: Words {
 
 /// The memory of a process as an input has it, and the code of the files that the process maps.
 #[derive(Clone, Copy, Drop)]
-pub struct MappedMemory<'a, K: KnownMemory, U: ProcessUnwinder> {
+pub struct MappedMemory<'a, 'm, K: KnownMemory, U: ProcessUnwinder> {
     pub known: &'a K,
-    pub files: &'a Files,
+    pub files: &'a Files<'m>,
     pub process: &'a Process<U>,
 }
 
-impl<K: KnownMemory, U: ProcessUnwinder> MappedMemory<'_, K, U> {
+impl<K: KnownMemory, U: ProcessUnwinder> MappedMemory<'_, '_, K, U> {
     /// Returns the bytes from an address (AVMA) on: as the input has them, or else the code of a mapped file.
     fn bytes_from(&self, address: u64) -> Option<&[u8]>
         ensures { option_map (λ bytes. bytes.now) result
@@ -50,7 +50,7 @@ impl<K: KnownMemory, U: ProcessUnwinder> MappedMemory<'_, K, U> {
     }
 }
 
-impl<K: KnownMemory, U: ProcessUnwinder> WordMemory for MappedMemory<'_, K, U> {
+impl<K: KnownMemory, U: ProcessUnwinder> WordMemory for MappedMemory<'_, '_, K, U> {
     ghost memory = { λ mapped. K.memory mapped.known.now };
 
     fn word(&self, address: u64) -> Option<u64> {
@@ -58,7 +58,7 @@ impl<K: KnownMemory, U: ProcessUnwinder> WordMemory for MappedMemory<'_, K, U> {
     }
 }
 
-impl<K: KnownMemory, U: ProcessUnwinder> CodeMemory for MappedMemory<'_, K, U> {
+impl<K: KnownMemory, U: ProcessUnwinder> CodeMemory for MappedMemory<'_, '_, K, U> {
     ghost use Rattle.framehop_frames.specs.Code.{code_of};
 
     ghost code = { λ mapped. code_of (K.bytes_from mapped.known.now) (K.is_code mapped.known.now) mapped.files.now mapped.process.now.mappings };

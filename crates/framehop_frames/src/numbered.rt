@@ -14,7 +14,7 @@ use std::alloc::{AllocError, Global};
 /// Returns the lines of a stack's frames, each after its number, and of its end, by its process's mappings in order.
 pub fn numbered_block<R: Copy>(
     alloc: Global,
-    files: &Files,
+    files: &Files<'_>,
     mappings: &[Mapping],
     stack: &Stack<R>,
 ) -> Result<Vec<u8>, AllocError>
@@ -32,7 +32,7 @@ pub fn numbered_block<R: Copy>(
 fn push_numbered_lines<R: Copy>(
     alloc: Global,
     block: &mut Vec<u8>,
-    files: &Files,
+    files: &Files<'_>,
     mappings: &[Mapping],
     frames: &[StackFrame<R>],
 ) -> Result<(), AllocError>

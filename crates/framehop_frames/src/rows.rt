@@ -14,12 +14,12 @@ use std::alloc::AllocError;
 
 /// The rows of the `.debug_frame` that the files which a process maps have beside their `.eh_frame`.
 #[derive(Clone, Copy, Drop)]
-pub struct DebugFrames<'a, U: Steps> {
-    pub files: &'a Files,
+pub struct DebugFrames<'a, 'm, U: Steps> {
+    pub files: &'a Files<'m>,
     pub process: &'a Process<U>,
 }
 
-impl<U: Steps> Rows for DebugFrames<'_, U> {
+impl<U: Steps> Rows for DebugFrames<'_, '_, U> {
     ghost use Rattle.framehop_frames.specs.Rows.{debug_rows};
 
     ghost rows = { λ frames limits. debug_rows (U.walker.row_in limits) frames.files.now frames.process.now.mappings };

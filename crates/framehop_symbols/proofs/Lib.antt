@@ -1,3 +1,4 @@
+mod CodeLemmas
 mod CodeMapLemmas
 mod FileLemmas
 mod MapLemmas

@@ -1,6 +1,7 @@
 -- What the contracts of this crate cite: the files that processes map, and where addresses are in them.
 pub mod Source
 pub mod MadeUpId
+pub mod MappedBytes
 pub mod ObjectFiles
 pub mod CodeMap
 pub mod Files

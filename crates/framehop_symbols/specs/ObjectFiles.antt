@@ -38,6 +38,7 @@ use Rattle.framehop.specs.Modules.{ModuleView}
 use Rattle.framehop.specs.ModuleData.{unwind_data_in}
 use Rattle.framehop_symbols.specs.Exports.{symbols_of as exported_symbols_of}
 use Rattle.framehop_symbols.specs.MadeUpId.{is_made_up}
+use Rattle.framehop_symbols.specs.declared.code.FileCode.{FileCode}
 use Rattle.framehop_symbols.specs.declared.code.SegmentCode.{SegmentCode}
 use Rattle.framehop_symbols.specs.declared.object_file.ObjectFile.{ObjectFile}
 use Rattle.framehop_symbols.specs.declared.object_file.FileProblem.{FileProblem}
@@ -219,8 +220,12 @@ pub record CodeView : Type 0 where
   pub start : ℕ
   pub bytes : List ℕ
 
-abbrev pub code_view : SegmentCode → CodeView
-code_view code = record { start = code.start; bytes = code.bytes.items }
+-- that of a segment, by where its bytes are among those that are kept of its file; and that of all segments
+abbrev pub segment_view : List ℕ → SegmentCode → CodeView
+segment_view kept segment = record { start = segment.start; bytes = take segment.size (drop segment.offset kept) }
+
+abbrev pub code_view : FileCode → List CodeView
+code_view code = map (segment_view code.bytes.items) code.segments.items
 
 abbrev pub code_of_segment : List ℕ → Segment → CodeView
 code_of_segment file segment = record {
@@ -364,7 +369,7 @@ IsOutOfMemory problem = (problem ≡ Elf ElfOutOfMemory) ⊎ (problem ≡ Pe PeO
 -- what is kept of a file with these contents, and of the symbol tables of its debug file
 pub record IsKeptBy (contents : Contents) (debug : List Listed) (object : ObjectFile) : Type 0 where
   pub segments : object.segments.items ≡ contents.segments
-  pub code : map code_view object.code.items ≡ contents.code
+  pub code : code_view object.code ≡ contents.code
   pub build_id : object.build_id.items ≡ contents.build_id
   pub debug_link : object.debug_link.items ≡ contents.debug_link
   pub compressed : object.has_compressed_frames ≡ contents.has_compressed_frames

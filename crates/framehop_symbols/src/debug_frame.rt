@@ -4,17 +4,18 @@ ghost use Rattle.framehop_processes.specs.Mappings.{IsInOrder};
 ghost use Rattle.framehop_symbols.specs.DebugFrame.{debug_frame_in_mapping, debug_frame_at};
 
 use crate::files::Files;
+use crate::mapped_bytes::MappedBytes;
 use crate::place::mapping_at;
 use framehop::Module;
 use framehop_processes::Mapping;
 
 /// Returns a module of the `.debug_frame` that the file mapped at an address (AVMA) has beside its `.eh_frame`, and the
 /// relative address in it, by mappings in order.
-pub fn debug_frame_at<'a>(
-    files: &'a Files,
+pub fn debug_frame_at<'a, 'm>(
+    files: &'a Files<'m>,
     mappings: &[Mapping],
     address: u64,
-) -> Option<(&'a Module<Vec<u8>>, u32)>
+) -> Option<(&'a Module<MappedBytes<'m>>, u32)>
     requires { IsInOrder 0 mappings.now }
     ensures { option_map (λ found. (found.0.now, found.1)) result ≡ debug_frame_at files.entry.now mappings.now address }
 {
@@ -23,11 +24,11 @@ pub fn debug_frame_at<'a>(
 }
 
 /// Returns the same of a mapping: one without sections is of no file that was read.
-fn debug_frame_in_mapping(
-    files: &Files,
+fn debug_frame_in_mapping<'a, 'm>(
+    files: &'a Files<'m>,
     mapping: Mapping,
     address: u64,
-) -> Option<(&Module<Vec<u8>>, u32)>
+) -> Option<(&'a Module<MappedBytes<'m>>, u32)>
     ensures { option_map (λ found. (found.0.now, found.1)) result ≡ debug_frame_in_mapping files.entry.now address mapping }
 {
     if !mapping.has_sections {

@@ -9,10 +9,12 @@ ghost use Rattle.framehop_symbols.specs.Source.{SourceView};
 ghost use Rattle.framehop_symbols.specs.declared.object_file.FileProblem.{FileProblem};
 
 use crate::code_map::CodeMap;
+use crate::mapped_bytes::MappedBytes;
 use crate::object_file::{FileProblem, ObjectFile, bare_module};
 use framehop::Module;
 use framehop::aarch64::UnwinderAarch64;
 use framehop::cache::AllocationPolicy;
+use framehop::section::SectionBytes;
 use framehop::x86_64::UnwinderX86_64;
 use framehop_processes::{Mapping, ModuleMaker, ProcessUnwinder};
 use std::alloc::{AllocError, Global};
@@ -60,28 +62,28 @@ pub trait FileSource {
 
 /// A file that processes map, by its name.
 #[derive(Drop)]
-pub struct NamedFile {
+pub struct NamedFile<'m> {
     /// Its name, as the input has it: a recording, a core file or a minidump.
     pub name: Vec<u8>,
     /// What was read of it.
-    pub object: Option<ObjectFile>,
+    pub object: Option<ObjectFile<'m>>,
     /// What was read of it, where it is a map of code that is in no file.
     pub code_map: Option<CodeMap>,
     /// Why nothing was read of it. The vdso and other memory that is no file have no problem.
     pub problem: Option<FileProblem>,
 }
 
-/// The files that processes map.
+/// The files that processes map. Their modules are of the type of those that lend bytes for `'m`.
 #[derive(Drop)]
-pub struct Files {
-    list: Vec<NamedFile>,
+pub struct Files<'m> {
+    list: Vec<NamedFile<'m>>,
     numbers: BTreeMap<Vec<u8>, u32>,
     /// The numbers of maps of code that is in no file, by their processes.
     maps: BTreeMap<u32, u32>,
-    bare: Module<Vec<u8>>,
+    bare: Module<MappedBytes<'m>>,
 }
 
-impl Files {
+impl<'m> Files<'m> {
     /// Returns no files.
     pub fn new(alloc: Global) -> Result<Self, AllocError>
         ensures { IfOk result (λ files. IsWithoutFiles files) }
@@ -159,21 +161,21 @@ impl Files {
     }
 
     /// Returns the file of a number.
-    pub fn get(&self, number: u32) -> Option<&NamedFile>
+    pub fn get(&self, number: u32) -> Option<&NamedFile<'m>>
         ensures { option_map (λ file. file.now) result ≡ slice_get self.now.list.items number }
     {
         self.list.get(number as usize)
     }
 
     /// Returns all of them, in the order of their numbers.
-    pub fn list(&self) -> &[NamedFile]
+    pub fn list(&self) -> &[NamedFile<'m>]
         ensures { result.now ≡ self.now.list.items }
     {
         self.list.as_slice()
     }
 
     /// Returns what was read of the file of a number.
-    pub fn object(&self, number: u32) -> Option<&ObjectFile>
+    pub fn object(&self, number: u32) -> Option<&ObjectFile<'m>>
         ensures { option_copied result ≡ object_in self.now number }
     {
         match self.get(number) {
@@ -184,7 +186,7 @@ impl Files {
 
     /// Returns the module of a mapping. It has no unwind data where the mapping is without sections, or
     /// where nothing was read of the file.
-    fn module_at(&self, mapping: &Mapping) -> Result<Module<Vec<u8>>, AllocError>
+    fn module_at(&self, mapping: &Mapping) -> Result<Module<MappedBytes<'m>>, AllocError>
         ensures { IfOk result (λ made. made ≡ module_at self.now mapping.now) }
     {
         if !mapping.has_sections {
@@ -198,12 +200,12 @@ impl Files {
 }
 
 /// Reads a file, if its name is a path or that of the vdso.
-fn load<S: FileSource>(
+fn load<'m, S: FileSource>(
     alloc: Global,
     source: &S,
     name: &[u8],
     build_id: &[u8],
-) -> Result<NamedFile, AllocError>
+) -> Result<NamedFile<'m>, AllocError>
     ensures { IfOk result (λ file. IsFileOf (S.source source.now) name.now build_id.now file) }
 {
     let mut file = NamedFile {
@@ -241,12 +243,12 @@ pub fn is_vdso(name: &[u8]) -> bool
 }
 
 /// Reads a file from its source, with the names of its functions in its debug file.
-fn read_with_names<S: FileSource>(
+fn read_with_names<'m, S: FileSource>(
     alloc: Global,
     source: &S,
     name: &[u8],
     build_id: &[u8],
-) -> Result<ObjectFile, FileProblem>
+) -> Result<ObjectFile<'m>, FileProblem>
     ensures kept { IfOk result (IsKept (S.source source.now) name.now build_id.now) }
     ensures refused { IfErr result (λ problem. IsOutOfMemory problem
         ⊎ (IsRefused (S.source source.now) name.now build_id.now problem × IsNotCopied (S.source source.now) build_id.now)) }
@@ -257,12 +259,12 @@ fn read_with_names<S: FileSource>(
 }
 
 /// Reads a file from its source: by its name, or else by the build id that is wanted of it.
-fn read_object<S: FileSource>(
+fn read_object<'m, S: FileSource>(
     alloc: Global,
     source: &S,
     name: &[u8],
     build_id: &[u8],
-) -> Result<ObjectFile, FileProblem>
+) -> Result<ObjectFile<'m>, FileProblem>
     ensures kept { IfOk result (λ object. (bytes : List ℕ)
         × (IsNamed (S.source source.now) name.now build_id.now bytes
         ⊎ (((problem : FileProblem) × IsRefused (S.source source.now) name.now build_id.now problem)
@@ -286,12 +288,12 @@ fn read_object<S: FileSource>(
 }
 
 /// Reads the file of a name.
-fn read_named<S: FileSource>(
+fn read_named<'m, S: FileSource>(
     alloc: Global,
     source: &S,
     name: &[u8],
     build_id: &[u8],
-) -> Result<ObjectFile, FileProblem>
+) -> Result<ObjectFile<'m>, FileProblem>
     ensures kept { IfOk result (λ object. (bytes : List ℕ)
         × IsNamed (S.source source.now) name.now build_id.now bytes × IsKeptOf bytes [] object) }
     ensures refused { IfErr result (λ problem. IsOutOfMemory problem
@@ -352,11 +354,11 @@ fn path_of(name: &[u8]) -> &[u8]
 
 /// Reads the copy of the file of a build id that is wanted: `None` where there is none, or it can't be used. Fails only
 /// where an allocation does.
-fn read_copied<S: FileSource>(
+fn read_copied<'m, S: FileSource>(
     alloc: Global,
     source: &S,
     build_id: &[u8],
-) -> Result<Option<ObjectFile>, FileProblem>
+) -> Result<Option<ObjectFile<'m>>, FileProblem>
     ensures kept { IfOk result (λ found. MatchOption found (IsNotCopied (S.source source.now) build_id.now)
         (λ object. (bytes : List ℕ) × IsCopied (S.source source.now) build_id.now bytes × IsKeptOf bytes [] object)) }
     ensures refused { IfErr result (λ problem. IsOutOfMemory problem) }
@@ -384,7 +386,7 @@ fn add_debug_names<S: FileSource>(
     alloc: Global,
     source: &S,
     path: &[u8],
-    object: &mut ObjectFile,
+    object: &mut ObjectFile<'_>,
 ) -> Result<(), AllocError>
     ensures kept { (file : List ℕ) → IsKeptOf file [] object.old → OnOk result ((debug : List Listed)
         × AreDebugTables (S.source source.now) path.now object.new.debug_link.items object.new.build_id.items debug
@@ -447,25 +449,28 @@ fn has_drive(name: &[u8]) -> bool
 }
 
 /// Returns a module at the addresses of a mapping.
-pub fn placed_at(loaded: &Module<Vec<u8>>, mapping: &Mapping) -> Result<Module<Vec<u8>>, AllocError>
+pub fn placed_at<'m>(
+    loaded: &Module<MappedBytes<'m>>,
+    mapping: &Mapping,
+) -> Result<Module<MappedBytes<'m>>, AllocError>
     ensures { IfOk result (λ made. made ≡ placed_at loaded.now mapping.now) }
 {
     loaded.placed_at(mapping.start..mapping.end, mapping.base_avma)
 }
 
-/// An unwinder whose modules own their bytes, as those of files do.
-pub trait FileUnwinder: ProcessUnwinder<Module = Module<Vec<u8>>> {
+/// An unwinder whose modules have their bytes as `D`.
+pub trait FileUnwinder<D: SectionBytes>: ProcessUnwinder<Module = Module<D>> {
     // a module is what it is for all unwinders
     ghost module_is: { (made : ModuleView) → Self.module_view made ≡ made };
 }
 
-impl<P: AllocationPolicy> FileUnwinder for UnwinderX86_64<Vec<u8>, P> {
+impl<D: SectionBytes + Drop, P: AllocationPolicy> FileUnwinder<D> for UnwinderX86_64<D, P> {
     ghost use Rattle.std.specs.Prelude.{refl};
 
     ghost module_is = { λ made. refl };
 }
 
-impl<P: AllocationPolicy> FileUnwinder for UnwinderAarch64<Vec<u8>, P> {
+impl<D: SectionBytes + Drop, P: AllocationPolicy> FileUnwinder<D> for UnwinderAarch64<D, P> {
     ghost use Rattle.std.specs.Prelude.{refl};
 
     ghost module_is = { λ made. refl };
@@ -473,11 +478,11 @@ impl<P: AllocationPolicy> FileUnwinder for UnwinderAarch64<Vec<u8>, P> {
 
 /// Makes the modules of mappings, by the files that processes map.
 #[derive(Clone, Copy, Drop)]
-pub struct FileModules<'a> {
-    pub files: &'a Files,
+pub struct FileModules<'a, 'm> {
+    pub files: &'a Files<'m>,
 }
 
-impl<U: FileUnwinder> ModuleMaker<U> for FileModules<'_> {
+impl<'m, U: FileUnwinder<MappedBytes<'m>>> ModuleMaker<U> for FileModules<'_, 'm> {
     ghost use Rattle.std.specs.Prelude.{refl};
 
     ghost module_of = { λ maker mapping. module_at maker.files.now mapping };
@@ -486,7 +491,11 @@ impl<U: FileUnwinder> ModuleMaker<U> for FileModules<'_> {
 
     ghost end_is = { λ maker mapping. refl };
 
-    fn make_module(&self, alloc: Global, mapping: &Mapping) -> Result<Module<Vec<u8>>, AllocError> {
+    fn make_module(
+        &self,
+        alloc: Global,
+        mapping: &Mapping,
+    ) -> Result<Module<MappedBytes<'m>>, AllocError> {
         self.files.module_at(mapping)
     }
 }

@@ -7,6 +7,7 @@ ghost use Rattle.framehop_cfi.specs.RowAt.{covers};
 ghost use Rattle.framehop_pe.specs.Sections.{Sections};
 ghost use Rattle.framehop_symbols.specs.FunctionStart.{start_at, start_by, start_in_table, function_start_in};
 
+use crate::mapped_bytes::MappedBytes;
 use framehop::Module;
 use framehop::unwind_data::{HeaderFrames, IndexedFrames, ModuleUnwindDataInternal, PeInfo};
 use framehop_bytes::section::SectionBytes;
@@ -19,7 +20,7 @@ use framehop_pe::unwind_info::function_table::FunctionTableEntries;
 /// Returns where the function begins that has an address, by the unwind data of its module: the start of the FDE that
 /// covers the address, or of the function of `.pdata`. The address is relative to the module's base; the start is an SVMA,
 /// and an RVA in a PE file.
-pub(crate) fn function_start(module: &Module<Vec<u8>>, relative_address: u32) -> Option<u64>
+pub(crate) fn function_start(module: &Module<MappedBytes<'_>>, relative_address: u32) -> Option<u64>
     ensures { result ≡ function_start_in «module».now.unwind_data relative_address }
 {
     match module.unwind_data() {
@@ -37,7 +38,7 @@ pub(crate) fn function_start(module: &Module<Vec<u8>>, relative_address: u32) ->
 
 /// Returns where the function begins by `.eh_frame` and its table.
 #[tactic(auto, unfolding(framehop::specs::CallFrames::fde_offset_of))]
-fn start_by_header(frames: &HeaderFrames<Vec<u8>>, relative_address: u32) -> Option<u64>
+fn start_by_header(frames: &HeaderFrames<MappedBytes<'_>>, relative_address: u32) -> Option<u64>
     ensures { result ≡ start_at (header_frames frames.now) relative_address (fde_offset_of (header_frames frames.now) relative_address) }
 {
     let address = frames.base_svma.checked_add(u64::from(relative_address))?;
@@ -59,7 +60,7 @@ fn offset_in_table(bytes: &[u8], bases: SectionBaseAddresses, address: u64) -> O
 }
 
 /// Returns where the function begins by a section with an index.
-fn start_by_index(frames: &IndexedFrames<Vec<u8>>, relative_address: u32) -> Option<u64>
+fn start_by_index(frames: &IndexedFrames<MappedBytes<'_>>, relative_address: u32) -> Option<u64>
     ensures { result ≡ start_at frames.now relative_address (fde_offset_of frames.now relative_address) }
 {
     let address = frames.base_svma.checked_add(u64::from(relative_address))?;
@@ -89,7 +90,7 @@ fn covers(fde: &FrameDescriptionEntry, address: u64) -> bool
 }
 
 /// Returns where the function of `.pdata` begins that has a relative address.
-fn start_by_table(info: &PeInfo<Vec<u8>>, relative_address: u32) -> Option<u64>
+fn start_by_table(info: &PeInfo<MappedBytes<'_>>, relative_address: u32) -> Option<u64>
     ensures { result ≡ start_in_table info.now.pdata relative_address }
 {
     let table = FunctionTableEntries {

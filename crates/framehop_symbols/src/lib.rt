@@ -9,6 +9,7 @@ mod exports;
 pub mod files;
 mod function_start;
 pub mod made_up_id;
+pub mod mapped_bytes;
 pub mod object_file;
 mod pe_file;
 pub mod place;

@@ -5,19 +5,20 @@
 ghost use Rattle.std.specs.Prelude.{◌≡◌, ◌⊎◌, ◌↔◌, IsTrue, ℕ, List, [], ◌++◌, Some, None, Ok, Err, IfOk, IfErr, OnOk, MatchResult, option_map, option_to_list};
 ghost use Rattle.std.specs.List.{filter};
 ghost use Rattle.framehop_elf.specs.Symbol.{symbol_for};
-ghost use Rattle.framehop_elf.specs.UnwindSections.{sections_view};
 ghost use Rattle.framehop_elf.specs.declared.error.ElfError.{ElfError};
 ghost use Rattle.framehop_memory.specs.Segment.{base_of};
 ghost use Rattle.framehop_symbols.specs.ObjectFiles.{Contents, Listed, headers_view, headers_of, build_id_in, build_id_by, debug_link_in, has_compressed_frames, contents_of, is_another, is_another_file, problem_by, problem_of, symbols_in, symbols_called, tables_of, debug_tables_of, is_internal, has_version, is_underscored, plainness_of, is_so_plain, by_plainness, IsTable, AreTables, module_of, module_in, debug_frame_in, bare_module, export_tables_of, elf_contents_of, pe_contents_of, IsOutOfMemory, IsKeptBy, IsKeptOf};
 ghost use Rattle.framehop_symbols.specs.Code.{code_of_object};
+ghost use Rattle.framehop_symbols.specs.MappedBytes.{mapped_sections_view};
 ghost use Rattle.framehop_symbols.specs.Found.{has_names, is_unwind_data};
 ghost use Rattle.framehop_symbols.specs.Place.{option_named, function_at, unnamed_start};
 ghost use Rattle.framehop_symbols.specs.declared.object_file.FileProblem.{FileProblem};
 
-use crate::code::{SegmentCode, code_from, code_of};
+use crate::code::{FileCode, code_from, code_of};
 use crate::exports::exported_functions;
 use crate::function_start::function_start;
 use crate::made_up_id::is_made_up;
+use crate::mapped_bytes::{MappedBytes, kept_sections};
 use crate::pe_file;
 use framehop::Module;
 use framehop::section::ExplicitModuleSectionInfo;
@@ -67,17 +68,18 @@ impl Symbols {
     }
 }
 
-/// A file that processes map: its segments with their code, its functions, and its unwind data, which is read once.
+/// A file that processes map: its segments with their code, its functions, and its unwind data, which is read once. It owns
+/// all of them; its modules are of the type of those that lend bytes for `'m`.
 #[derive(Drop)]
-pub struct ObjectFile {
+pub struct ObjectFile<'m> {
     segments: Vec<Segment>,
     /// The code of each segment.
-    code: Vec<SegmentCode>,
+    code: FileCode,
     symbols: Vec<Symbols>,
     /// At no address. The modules of mappings share its unwind data.
-    module: Module<Vec<u8>>,
+    module: Module<MappedBytes<'m>>,
     /// The same by `.debug_frame` only, where the file has `.eh_frame`, too.
-    debug_frame: Module<Vec<u8>>,
+    debug_frame: Module<MappedBytes<'m>>,
     /// Its build id, or the GUID and the age of its program database: no bytes where it has none.
     build_id: Vec<u8>,
     /// The name of its debug file by `.gnu_debuglink`: no bytes where it has none.
@@ -143,7 +145,7 @@ impl From<AllocError> for FileProblem {
     }
 }
 
-impl ObjectFile {
+impl<'m> ObjectFile<'m> {
     /// Reads an ELF file or a PE file. Where a build id is wanted, the file's must be the same; that of a PE file
     /// is the GUID and the age of its program database.
     ///
@@ -241,11 +243,11 @@ impl ObjectFile {
     pub fn code_from(&self, svma: u64) -> Option<&[u8]>
         ensures { option_map (λ code. code.now) result ≡ code_of_object svma self.now }
     {
-        code_from(self.code.as_slice(), svma)
+        code_from(&self.code, svma)
     }
 
     /// Returns a module of the file that lies at no address.
-    pub fn module(&self) -> &Module<Vec<u8>>
+    pub fn module(&self) -> &Module<MappedBytes<'m>>
         ensures { result.now ≡ self.now.«module» }
     {
         &self.module
@@ -253,7 +255,7 @@ impl ObjectFile {
 
     /// Returns a module of the file's `.debug_frame` that lies at no address: without unwind data where the file has none
     /// beside its `.eh_frame`.
-    pub fn debug_frame(&self) -> &Module<Vec<u8>>
+    pub fn debug_frame(&self) -> &Module<MappedBytes<'m>>
         ensures { result.now ≡ self.now.debug_frame }
     {
         &self.debug_frame
@@ -286,7 +288,7 @@ impl ObjectFile {
 }
 
 /// Reads a PE file. Where the GUID and the age of a program database are wanted, the file's must be the same.
-fn read_pe(alloc: Global, bytes: &[u8], wanted: &[u8]) -> Result<ObjectFile, FileProblem>
+fn read_pe<'m>(alloc: Global, bytes: &[u8], wanted: &[u8]) -> Result<ObjectFile<'m>, FileProblem>
     ensures kept { IfOk result (λ object. (contents : Contents) × (pe_contents_of bytes.now ≡ Ok contents)
         × IsKeptBy contents [] object) }
     ensures wanted { IfOk result (λ _. problem_by bytes.now wanted.now (pe_contents_of bytes.now) ≡ None) }
@@ -336,15 +338,15 @@ fn read_exports(
 }
 
 /// Returns a module without unwind data that lies at no address.
-pub(crate) fn bare_module(alloc: Global) -> Result<Module<Vec<u8>>, AllocError>
+pub(crate) fn bare_module<'m>(alloc: Global) -> Result<Module<MappedBytes<'m>>, AllocError>
     ensures { IfOk result (λ made. made ≡ bare_module) }
 {
-    let info: ExplicitModuleSectionInfo<Vec<u8>> = ExplicitModuleSectionInfo::default();
+    let info: ExplicitModuleSectionInfo<MappedBytes<'m>> = ExplicitModuleSectionInfo::default();
     module_of(alloc, info)
 }
 
 /// Reads an ELF file. Where a build id is wanted, the file's must be the same.
-fn read_elf(alloc: Global, bytes: &[u8], wanted: &[u8]) -> Result<ObjectFile, FileProblem>
+fn read_elf<'m>(alloc: Global, bytes: &[u8], wanted: &[u8]) -> Result<ObjectFile<'m>, FileProblem>
     ensures kept { IfOk result (λ object. (contents : Contents) × (elf_contents_of bytes.now ≡ Ok contents)
         × IsKeptBy contents [] object) }
     ensures wanted { IfOk result (λ _. problem_by bytes.now wanted.now (elf_contents_of bytes.now) ≡ None) }
@@ -412,34 +414,38 @@ fn push_symbols(
 }
 
 /// Returns a module that lies at no address, with the unwind data of the file's sections.
-fn module_in(alloc: Global, file: &[u8], headers: &Headers<'_>) -> Result<Module<Vec<u8>>, ElfError>
+fn module_in<'m>(
+    alloc: Global,
+    file: &[u8],
+    headers: &Headers<'_>,
+) -> Result<Module<MappedBytes<'m>>, ElfError>
     ensures loaded { IfOk result (λ made. made ≡ module_in file.now (headers_view headers.now)) }
     ensures refused { IfErr result (λ error. error ≡ ElfError.OutOfMemory) }
 {
     let info = read_unwind_sections(alloc, file, headers.sections.as_slice(), headers.names)?;
-    Ok(module_of(alloc, info)?)
+    Ok(module_of(alloc, kept_sections(info))?)
 }
 
 /// Returns a module that lies at no address, with the `.debug_frame` of a file that has `.eh_frame`, too: else it has no
 /// unwind data.
-fn debug_frame_in(
+fn debug_frame_in<'m>(
     alloc: Global,
     file: &[u8],
     headers: &Headers<'_>,
-) -> Result<Module<Vec<u8>>, ElfError>
+) -> Result<Module<MappedBytes<'m>>, ElfError>
     ensures loaded { IfOk result (λ made. made ≡ debug_frame_in file.now (headers_view headers.now)) }
     ensures refused { IfErr result (λ error. error ≡ ElfError.OutOfMemory) }
 {
     let info = read_debug_frame(alloc, file, headers.sections.as_slice(), headers.names)?;
-    Ok(module_of(alloc, info)?)
+    Ok(module_of(alloc, kept_sections(info))?)
 }
 
 /// Returns a module that lies at no address, with the unwind data of sections.
-fn module_of(
+pub fn module_of<'m>(
     alloc: Global,
-    info: ExplicitModuleSectionInfo<Vec<u8>>,
-) -> Result<Module<Vec<u8>>, AllocError>
-    ensures { IfOk result (λ made. made ≡ module_of (sections_view info)) }
+    info: ExplicitModuleSectionInfo<MappedBytes<'m>>,
+) -> Result<Module<MappedBytes<'m>>, AllocError>
+    ensures { IfOk result (λ made. made ≡ module_of (mapped_sections_view info.entry)) }
 {
     match Module::new(alloc, String::new(alloc), 0..0, 0, info) {
         Ok(made) => Ok(made),

@@ -3,6 +3,7 @@ ghost use Rattle.std.specs.Prelude.{◌≡◌, ◌⊎◌, Ok, Err, IfOk, IfErr, 
 ghost use Rattle.framehop_pe_file.specs.declared.error.PeError.{PeError};
 ghost use Rattle.framehop_symbols.specs.ObjectFiles.{segment_of, identity_by, identity_of, pe_headers_of, pe_module_in, pdata_of, is_pe};
 
+use crate::mapped_bytes::{MappedBytes, kept_pe_sections};
 use framehop::Module;
 use framehop_memory::segment::Segment;
 use framehop_pe_file::codeview::read_rsds;
@@ -78,16 +79,17 @@ pub fn pdata_in<'a>(file: &'a [u8], header: FileHeader, sections: &[SectionHeade
 }
 
 /// Returns a module of a file that lies at no address.
-pub fn module_in(
+pub fn module_in<'m>(
     alloc: Global,
     file: &[u8],
     header: FileHeader,
     sections: &[SectionHeader],
-) -> Result<Module<Vec<u8>>, PeError>
+) -> Result<Module<MappedBytes<'m>>, PeError>
     ensures loaded { IfOk result (λ made. made ≡ pe_module_in file.now header sections.now) }
     ensures refused { IfErr result (λ error. error ≡ PeError.OutOfMemory) }
 {
     let info = read_unwind_sections(alloc, file, header, sections)?;
+    let info = kept_pe_sections(info);
     match Module::new(alloc, String::new(alloc), 0..0, 0, info) {
         Ok(made) => Ok(made),
         Err(_) => Err(PeError::OutOfMemory),

@@ -43,7 +43,7 @@ pub enum Place<'a> {
 
 /// Returns where an address (AVMA) is, by mappings in order.
 #[tactic(auto, unfolding(crate::specs::Place::place_at))]
-pub fn place_of<'a>(files: &'a Files, mappings: &[Mapping], address: u64) -> Place<'a>
+pub fn place_of<'a>(files: &'a Files<'_>, mappings: &[Mapping], address: u64) -> Place<'a>
     requires { IsInOrder 0 mappings.now }
     ensures { place_view result ≡ place_at files.entry.now mappings.now address }
 {
@@ -76,7 +76,7 @@ fn mapping_from(mappings: &[Mapping], place: usize, address: u64) -> Option<Mapp
 }
 
 /// Returns where an address (AVMA) of a mapping of a file is.
-fn place_in_file<'a>(file: &'a NamedFile, mapping: Mapping, address: u64) -> Place<'a>
+fn place_in_file<'a>(file: &'a NamedFile<'_>, mapping: Mapping, address: u64) -> Place<'a>
     ensures { place_view result ≡ place_in_file (Some file.entry.now) mapping address }
 {
     match name_in_map(&file.code_map, address) {
@@ -101,7 +101,7 @@ fn name_in_map(code_map: &Option<CodeMap>, address: u64) -> Option<(&[u8], u64)>
 }
 
 /// Returns where an address (AVMA) of a mapping of a file is, by the sections of the file.
-fn place_in_sections<'a>(file: &'a NamedFile, mapping: Mapping, address: u64) -> Place<'a>
+fn place_in_sections<'a>(file: &'a NamedFile<'_>, mapping: Mapping, address: u64) -> Place<'a>
     ensures { place_view result ≡ place_in_object mapping.has_sections file.entry.now.name.items file.entry.now.object (address - mapping.base_avma) }
 {
     let name = file.name.as_slice();
@@ -118,7 +118,7 @@ fn place_in_sections<'a>(file: &'a NamedFile, mapping: Mapping, address: u64) ->
 }
 
 /// Returns where an address (SVMA) of an ELF file is.
-fn place_in_object<'a>(file: &'a [u8], object: &'a ObjectFile, svma: u64) -> Place<'a>
+fn place_in_object<'a>(file: &'a [u8], object: &'a ObjectFile<'_>, svma: u64) -> Place<'a>
     ensures { place_view result ≡ place_in_object true file.entry.now (Some object.entry.now) svma }
 {
     match object.function_at(svma) {
@@ -128,7 +128,7 @@ fn place_in_object<'a>(file: &'a [u8], object: &'a ObjectFile, svma: u64) -> Pla
 }
 
 /// Returns where an address (SVMA) of an ELF file is that is in no function with a name.
-fn place_without_name<'a>(file: &'a [u8], object: &ObjectFile, svma: u64) -> Place<'a>
+fn place_without_name<'a>(file: &'a [u8], object: &ObjectFile<'_>, svma: u64) -> Place<'a>
     ensures { place_view result ≡ place_started file.entry.now svma (unnamed_start object.now svma) }
 {
     match object.unnamed_start(svma) {

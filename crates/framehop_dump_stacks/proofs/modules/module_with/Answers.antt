@@ -1,9 +1,8 @@
-use Rattle.std.proofs.Common.{ℕ, [], sym, ap, ◌∙◌}
-use Rattle.std.specs.Global.{Global}
-use Rattle.std.specs.declared.vec.Vec.{Vec}
+use Rattle.std.proofs.Common.{[], sym, ap, ◌∙◌}
 use Rattle.framehop_bytes.specs.ExplicitSections.{table_of}
 use Rattle.framehop.specs.Laws.SectionContents.{data-of_bytes}
 use Rattle.framehop.specs.Modules.{ModuleView, UnwindData}
+use Rattle.framehop_symbols.specs.MappedBytes.{contents_of}
 use Rattle.framehop_dump_stacks.proofs.modules.module_with.Goals as goal
 
 with_data : UnwindData → ModuleView
@@ -13,4 +12,4 @@ pub returns-in-Ok : goal.returns-in-Ok
 unfolding with_data
 returns-in-Ok c =
     rw c.new.ensures.bytes at c.in-Ok.ensures.made
-    ∙ ap with_data (sym (data-of_bytes (λ (bytes : Vec ℕ Global). bytes.items) (table_of c.args.info)))
+    ∙ ap with_data (sym (data-of_bytes contents_of (table_of c.args.info)))

@@ -1,15 +1,8 @@
-use Rattle.std.proofs.Common.{◌≡◌, ◌⊎◌, ℕ, List, inl, inr, ⊎_elim, Err, rules, subst}
-use Rattle.std.specs.Io.KnownBytes.{Appends}
+use Rattle.std.proofs.Common.{◌≡◌, ◌⊎◌, List, inl, inr, ⊎_elim, Err, rules, subst}
 use Rattle.framehop_minidump.specs.declared.error.MinidumpError.{MinidumpError}
 use Rattle.framehop_dump_stacks.specs.Dump.{DumpView, dump_view}
-use Rattle.framehop_frames.specs.Explained.{IsShown}
-use Rattle.framehop_dump_stacks.specs.Ended.{drawn_in, MayEnd, MayEndWithModules}
-use Rattle.framehop_dump_stacks.specs.Modules.{mappings_in}
-use Rattle.framehop_dump_stacks.specs.Noted.{AreNotesOf}
-use Rattle.framehop_dump_stacks.specs.Printed.{text_of}
-use Rattle.framehop_dump_stacks.specs.Problems.{IsSaid}
+use Rattle.framehop_dump_stacks.specs.Ended.{MayEndWithModules}
 use Rattle.framehop_dump_stacks.specs.Minidump.{LoadedView, PartsView, parts_view, minidump_of}
-use Rattle.framehop_dump_stacks.specs.declared.error.DumpStacksError.{DumpStacksError}
 use Rattle.framehop_dump_stacks.proofs.EndLemmas.{failed_as, ok-same}
 use Rattle.framehop_dump_stacks.proofs.MinidumpLemmas.{minidump-is, refused-first, refused-second, not-both}
 use Rattle.framehop_dump_stacks.proofs.program.write_minidump_stacks.Goals as goal
@@ -28,34 +21,18 @@ returns-in_err-dump-clause-refused g c =
     ⊎_elim (λ memory. inl memory) (λ refused. inr (refused-second c.args.file.now (parts_view c.in_ok-parts.parts) e c.in_ok-parts.ensures refused)) c.in_err-dump.ensures in
     λ refusal is. search (rules, due, is)
 
-pub returns-in_err-files-clause-refused : goal.returns-in_err-files-clause-refused
-returns-in_err-files-clause-refused g c = λ refusal is.
-    not-both _ _ refusal (minidump-is c.args.file.now (parts_view c.in_ok-parts.parts) (dump_view c.in_ok-dump.dump) c.in_ok-parts.ensures c.in_ok-dump.ensures) is
-
-pub returns-in_err-whole-clause-refused : goal.returns-in_err-whole-clause-refused
-returns-in_err-whole-clause-refused g c = λ refusal is.
-    not-both _ _ refusal (minidump-is c.args.file.now (parts_view c.in_ok-parts.parts) (dump_view c.in_ok-dump.dump) c.in_ok-parts.ensures c.in_ok-dump.ensures) is
-
-pub returns-in_err-write_dump-clause-refused : goal.returns-in_err-write_dump-clause-refused
-returns-in_err-write_dump-clause-refused g c = λ refusal is.
+pub returns-in_err-write_minidump-clause-refused : goal.returns-in_err-write_minidump-clause-refused
+returns-in_err-write_minidump-clause-refused g c = λ refusal is.
     not-both _ _ refusal (minidump-is c.args.file.now (parts_view c.in_ok-parts.parts) (dump_view c.in_ok-dump.dump) c.in_ok-parts.ensures c.in_ok-dump.ensures) is
 
 pub returns-clause-printed : goal.returns-clause-printed
 returns-clause-printed g c =
     let parts = parts_view c.in_ok-parts.parts in
     let dump = dump_view c.in_ok-dump.dump in
-    let files = c.in_ok-files.files in
-    let minidump : DumpView × List LoadedView = (dump, parts.modules) in
-    let P : DumpView → Type 0 = λ d. ((shown : List ℕ) × IsShown c.args.explain (AreNotesOf c.args.limit d files) (text_of c.args.limit d files) shown
-    × Appends (g.W.Write.contents c.args.out.now) (g.W.Write.contents c.write_dump.new.out) shown)
-    × ((said : List ℕ) × IsSaid d files (mappings_in d files) said
-    × Appends (g.E.Write.contents c.args.err.now) (g.E.Write.contents c.write_dump.new.err) said) in
-    let given = rw c.as_slice-modules.ensures.value at c.in_ok-files.ensures in
-    let whole = rw c.as_slice-modules.ensures.value at c.in_ok-whole.ensures in
-    let both = subst P whole (c.in_ok-write_dump.ensures.printed, c.in_ok-write_dump.ensures.said) in (
+    let minidump : DumpView × List LoadedView = (dump, parts.modules) in (
       minidump,
       minidump-is c.args.file.now parts dump c.in_ok-parts.ensures c.in_ok-dump.ensures,
-      (files, given, both.0, both.1),
+      rw c.as_slice-modules.ensures.value at c.in_ok-write_minidump.ensures.printed,
     )
 
 pub returns-in_err-parts-clause-read : goal.returns-in_err-parts-clause-read
@@ -72,16 +49,13 @@ returns-in_err-dump-clause-read g c = λ minidump is.
     ⊎_elim (λ memory. memory) (λ refused. not-both _ _ e is (refused-second c.args.file.now (parts_view c.in_ok-parts.parts) e c.in_ok-parts.ensures refused)) c.in_err-dump.ensures in
     search (rules, due)
 
-pub returns-in_err-write_dump-clause-read : goal.returns-in_err-write_dump-clause-read
-returns-in_err-write_dump-clause-read g c = λ minidump is.
-    let e = c.in_err-write_dump.field-0.0 in
+pub returns-in_err-write_minidump-clause-read : goal.returns-in_err-write_minidump-clause-read
+returns-in_err-write_minidump-clause-read g c = λ minidump is.
+    let e = c.in_err-write_minidump.field-0.0 in
     let source = g.S.FileSource.source c.args.source.now in
     let parts = parts_view c.in_ok-parts.parts in
     let dump = dump_view c.in_ok-dump.dump in
-    let files = c.in_ok-files.files in
     let same : (dump, parts.modules) ≡ minidump = ok-same _ _ _ (minidump-is c.args.file.now parts dump c.in_ok-parts.ensures c.in_ok-dump.ensures) is in
-    let given = rw c.as_slice-modules.ensures.value at c.in_ok-files.ensures in
-    let whole = rw c.as_slice-modules.ensures.value at c.in_ok-whole.ensures in
-    let may = subst (λ (d : DumpView). MayEnd (drawn_in d files) e) whole c.in_err-write_dump.ensures.refused in
-    failed_as c.from_residual-in_err-write_dump.result e (MayEndWithModules source minidump) c.from_residual-in_err-write_dump.ensures.1
-    (subst (λ (m : DumpView × List LoadedView). MayEndWithModules source m e) same (inr (files, given, may)))
+    let may = rw c.as_slice-modules.ensures.value at c.in_err-write_minidump.ensures.refused in
+    failed_as c.from_residual-in_err-write_minidump.result e (MayEndWithModules source minidump) c.from_residual-in_err-write_minidump.ensures.1
+    (subst (λ (m : DumpView × List LoadedView). MayEndWithModules source m e) same may)
