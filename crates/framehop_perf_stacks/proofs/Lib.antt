@@ -3,6 +3,7 @@ mod BuildIdLemmas
 mod ProblemLemmas
 mod StateLemmas
 mod TakenLemmas
+mod BodiesLemmas
 mod EventLemmas
 mod LinesLemmas
 mod KallsymsLemmas

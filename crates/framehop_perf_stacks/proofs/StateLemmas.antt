@@ -124,7 +124,10 @@ module _ (r : RecordView) (maps : ((r.kind == PERF_RECORD_MMAP) || (r.kind == PE
   pub named-kept : (named : Named) (tid : ℕ) → named_after r named tid ≡ named tid
   named-kept named tid = rw (names, forks) refl
 
-  change-none : (files : Files) → change_in files r ≡ Ok None
+  pub named-unchanged : (named : Named) → named_after r named ≡ named
+  named-unchanged named = rw (names, forks) refl
+
+  pub change-none : (files : Files) → change_in files r ≡ Ok None
   unfolding change_in
   change-none files = rw (maps, names, forks) refl
 

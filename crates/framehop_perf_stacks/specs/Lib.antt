@@ -9,6 +9,8 @@ pub mod Start
 pub mod Counts
 pub mod Run
 pub mod Recording
+pub mod Bodies
+pub mod Kept
 pub mod Chain
 pub mod Kallsyms
 pub mod PerfMap

@@ -1,6 +1,6 @@
 -- The maps that JIT compilers write for perf, one for each process: a line for each function, with its start, its size and its
 -- name (Linux, tools/perf/Documentation/jit-interface.txt).
-use Rattle.std.specs.Prelude.{◌≡◌, ℕ, ◌+◌, ◌^◌, ◌⊎◌, nat_lt, nat_eq, IsSome, drop, length, map, count_by, is_some, not, Bool, true, false, ◌&&◌, ◌||◌, List, [], ◌++◌, codes, decimal, Option, Some, None, option_and_then, ◌==◌, if◌then◌else◌}
+use Rattle.std.specs.Prelude.{◌≡◌, ℕ, ◌+◌, ◌^◌, ◌⊎◌, nat_lt, nat_eq, IsSome, drop, length, map, count_by, is_some, not, Bool, true, false, ◌&&◌, ◌||◌, List, ◌++◌, codes, decimal, Option, Some, None, option_and_then, ◌==◌, if◌then◌else◌}
 use Rattle.std.specs.List.{starts_with, filter_map}
 use Rattle.framehop_recording.specs.Mapping.{MappingView}
 use Rattle.framehop_symbols.specs.Files.{map_number_in, IsMapAdded}

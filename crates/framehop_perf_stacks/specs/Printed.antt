@@ -8,6 +8,7 @@ use Rattle.framehop_frames.specs.TakenText.{IsNoteX86_64, IsNoteAarch64}
 use Rattle.framehop_frames.specs.Walker.{x86_64_walker, aarch64_walker}
 use Rattle.framehop_symbols.specs.Files.{module_at}
 use Rattle.framehop_recording.specs.declared.error.RecordingError.{RecordingError}
+use Rattle.framehop_perf_stacks.specs.Bodies.{IsCompleted}
 use Rattle.framehop_perf_stacks.specs.Ended.{first_refusal, before_refusal, MayEnd}
 use Rattle.framehop_perf_stacks.specs.Problems.{AreProblems}
 use Rattle.framehop_perf_stacks.specs.Recording.{are_of_aarch64, records_in}
@@ -69,6 +70,27 @@ IsMadeUntil (Refused refusal) recording files options folded before after unsaid
     IsMadeFrom (map attribute_view recording.events.attributes.items)
     (before_refusal (records_in recording.records.items)) files options folded before after unsaid said
 IsMadeUntil error recording files options folded before after unsaid said = ⊤
+
+-- The same of records with bodies that are given for their samples.
+abbrev pub IsMadeFromWith : (RecordView → List ℕ → Type 0) → List AttributeView → List RecordView → Files → Options → Folded
+    → Option (List ℕ) → Option (List ℕ) → Option (List ℕ) → Option (List ℕ) → Type 0
+IsMadeFromWith gives attributes records files options folded before after unsaid said =
+    (whole : List RecordView) × Each (IsCompleted gives) records whole
+    × IsMadeFrom attributes whole files options folded before after unsaid said
+
+-- of a recording's records, and of those before the first that is refused
+abbrev pub IsMadeWith : (RecordView → List ℕ → Type 0) → Recording → Files → Options → Folded → Option (List ℕ)
+    → Option (List ℕ) → Option (List ℕ) → Option (List ℕ) → Type 0
+IsMadeWith gives recording files options folded before after unsaid said =
+    IsMadeFromWith gives (map attribute_view recording.events.attributes.items) (records_in recording.records.items)
+    files options folded before after unsaid said
+
+abbrev pub IsMadeUntilWith : (RecordView → List ℕ → Type 0) → StacksError → Recording → Files → Options → Folded
+    → Option (List ℕ) → Option (List ℕ) → Option (List ℕ) → Option (List ℕ) → Type 0
+IsMadeUntilWith gives (Refused refusal) recording files options folded before after unsaid said =
+    IsMadeFromWith gives (map attribute_view recording.events.attributes.items)
+    (before_refusal (records_in recording.records.items)) files options folded before after unsaid said
+IsMadeUntilWith gives error recording files options folded before after unsaid said = ⊤
 
 -- a run over the records of a recording may end with an error
 abbrev pub MayEndAt : Recording → Files → StacksError → Type 0

@@ -20,6 +20,7 @@ use Rattle.framehop_recording.specs.Sample.{SampleView, UserView, read_chain_vie
 use Rattle.framehop_recording.specs.Tasks.{lost_at}
 use Rattle.framehop_recording.specs.declared.error.RecordingError.{RecordingError}
 use Rattle.framehop_recording.specs.declared.sample.Sample.{Sample}
+use Rattle.framehop_perf_stacks.specs.Bodies.{with_body}
 use Rattle.framehop_perf_stacks.specs.Changes.{change_in}
 use Rattle.framehop_perf_stacks.specs.Chain.{kernel_lines, kernel_text, frames_of_chain}
 use Rattle.framehop_perf_stacks.specs.Counts.{CountsOneMore, HasSampleMore}
@@ -302,6 +303,11 @@ module _ {Regs : Type 0} (module_of : Mapping → ModuleView) (walker : Walker R
   -- the same of a record of a recording with these events
   abbrev pub IsToldOf : List AttributeView → RecordView × State → Told → Type 0
   IsToldOf attributes at told = IsToldAt at.1 (sample_in attributes at.0) told
+
+  -- the same of a record with a body that is given for it
+  abbrev pub IsToldWith : (RecordView → List ℕ → Type 0) → List AttributeView → RecordView × State → Told → Type 0
+  IsToldWith gives attributes at told =
+      (body : List ℕ) × gives at.0 body × IsToldOf attributes (with_body at.0 body, at.1) told
 
 -- the members of two lists belong together, one by one
 abbrev pub Each : {A B : Type 0} → (A → B → Type 0) → List A → List B → Type 0

@@ -4,13 +4,15 @@ ghost use Rattle.std.specs.Io.KnownBytes.{Appends};
 ghost use Rattle.std.specs.Result.{result_err};
 ghost use Rattle.framehop_recording.specs.Attributes.{attribute_view};
 ghost use Rattle.framehop_recording.specs.BuildIds.{file_build_id_view};
+ghost use Rattle.framehop_recording.specs.Records.{RecordView};
 ghost use Rattle.framehop_recording.specs.declared.error.RecordingError.{RecordingError};
+ghost use Rattle.framehop_perf_stacks.specs.Bodies.{IsCompleted};
 ghost use Rattle.framehop_perf_stacks.specs.Choice.{IsChosenOf};
 ghost use Rattle.framehop_perf_stacks.specs.Counts.{counts_text, cut_text, summary_text};
 ghost use Rattle.framehop_folded.specs.Folded.{IsInOrderOfBytes};
 ghost use Rattle.framehop_perf_stacks.specs.Ended.{before_refusal, MayEnd};
 ghost use Rattle.framehop_perf_stacks.specs.Files.{AreFilesOf};
-ghost use Rattle.framehop_perf_stacks.specs.Printed.{AreTold, IsMadeOf, IsSaid, IsWhole, IsMadeUntil, MayEndAt};
+ghost use Rattle.framehop_perf_stacks.specs.Printed.{AreTold, IsMadeOf, IsMadeWith, IsSaid, IsWhole, IsMadeUntil, IsMadeUntilWith, MayEndAt};
 ghost use Rattle.framehop_perf_stacks.specs.Recording.{records_in, events_in, IsReadOf};
 ghost use Rattle.framehop_perf_stacks.specs.Samples.{beginning, samples_from, Each, IsToldOf, Told, IsMade};
 ghost use Rattle.framehop_symbols.specs.declared.files.Files.{Files};
@@ -25,6 +27,7 @@ use crate::perf_map::MapSource;
 use crate::problems::problems_text;
 use crate::recording::{Recording, is_aarch64, read_files, read_recording};
 use crate::run::{Options, Run};
+use crate::sample_source::{InMemory, SampleSource};
 use framehop::aarch64::UnwinderAarch64;
 use framehop::cache::MayAllocateDuringUnwind;
 use framehop::x86_64::UnwinderX86_64;
@@ -32,6 +35,7 @@ use framehop_folded::folded::Folded;
 use framehop_processes::ModuleMaker;
 use framehop_recording::error::RecordingError;
 use framehop_symbols::files::{FileModules, FileSource, Files};
+use framehop_symbols::mapped_bytes::MappedBytes;
 use std::alloc::Global;
 use std::io::Write;
 
@@ -74,9 +78,37 @@ pub fn write_stacks<S: FileSource + MapSource, W: Write, E: Write>(
     ensures unwritten { OnErr result (out.new ≡ out.old) }
 {
     let recording = choose(alloc, read_recording(alloc, file)?, choice)?;
-    let files = read_files(alloc, &recording, source)?;
+    write_recording_stacks(alloc, &recording, source, &InMemory, options, out, err)
+}
+
+/// Folds the stacks of all samples of a recording that was read, or writes them to `out` as blocks, and writes to `err` what was
+/// counted and which files were not read. The bodies of its samples are those that a source gives for them, of each right
+/// before it is unwound.
+///
+/// # Errors
+///
+/// `OutOfMemory`, and `CannotWrite` if a file that was not read can't be told: nothing was folded or written to `out` then.
+/// What is refused later is in [`Unwound::ended`], as of [`write_stacks`].
+pub fn write_recording_stacks<S: FileSource + MapSource, B: SampleSource, W: Write, E: Write>(
+    alloc: Global,
+    recording: &Recording<'_>,
+    source: &S,
+    samples: &B,
+    options: Options<'_>,
+    out: &mut W,
+    err: &mut E,
+) -> Result<Unwound, StacksError>
+    ensures made { IfOk result (λ unwound. (files : Files) × AreFilesOf (S.source source.now) (S.gives_map source.now)
+        (map file_build_id_view recording.now.build_ids.items) (records_in recording.now.records.items) files
+        × ((unsaid : Option (List ℕ)) × AreTold files (E.contents err.old) unsaid × MatchResult unwound.ended
+        (λ refusal. IsWhole recording.now refusal × IsMadeWith (B.gives samples.now) recording.now files options.entry unwound.folded (W.contents out.old) (W.contents out.new) unsaid (E.contents err.new))
+        (λ error. MayEndAt recording.now files error × IsMadeUntilWith (B.gives samples.now) error recording.now files options.entry unwound.folded (W.contents out.old) (W.contents out.new) unsaid (E.contents err.new)))) }
+    ensures refused { IfErr result (λ error. (error ≡ OutOfMemory) ⊎ (error ≡ CannotWrite)) }
+    ensures unwritten { OnErr result (out.new ≡ out.old) }
+{
+    let files = read_files(alloc, recording, source)?;
     write_problems(alloc, err, &files)?;
-    unwind_recording(alloc, &recording, &files, options, out, err)
+    unwind_recording(alloc, recording, &files, samples, options, out, err)
 }
 
 /// Writes a line for each file of which nothing was read.
@@ -90,40 +122,47 @@ fn write_problems<E: Write>(alloc: Global, err: &mut E, files: &Files) -> Result
 }
 
 /// Unwinds all samples of a recording by the unwinder of its architecture.
-fn unwind_recording<W: Write, E: Write>(
+fn unwind_recording<'m, B: SampleSource, W: Write, E: Write>(
     alloc: Global,
     recording: &Recording<'_>,
-    files: &Files,
+    files: &Files<'m>,
+    samples: &B,
     options: Options<'_>,
     out: &mut W,
     err: &mut E,
 ) -> Result<Unwound, StacksError>
     ensures made { IfOk result (λ unwound. MatchResult unwound.ended
-        (λ refusal. IsWhole recording.now refusal × IsMadeOf recording.now files.now options.entry unwound.folded (W.contents out.old) (W.contents out.new) (E.contents err.old) (E.contents err.new))
-        (λ error. MayEndAt recording.now files.now error × IsMadeUntil error recording.now files.now options.entry unwound.folded (W.contents out.old) (W.contents out.new) (E.contents err.old) (E.contents err.new))) }
+        (λ refusal. IsWhole recording.now refusal × IsMadeWith (B.gives samples.now) recording.now files.now options.entry unwound.folded (W.contents out.old) (W.contents out.new) (E.contents err.old) (E.contents err.new))
+        (λ error. MayEndAt recording.now files.now error × IsMadeUntilWith (B.gives samples.now) error recording.now files.now options.entry unwound.folded (W.contents out.old) (W.contents out.new) (E.contents err.old) (E.contents err.new))) }
     ensures refused { IfErr result (λ error. error ≡ OutOfMemory) }
     ensures unwritten { OnErr result (out.new ≡ out.old) }
 {
     let maker = FileModules { files };
     if is_aarch64(&recording.events) {
         return unwind_all::<
-            UnwinderAarch64<Vec<u8>, MayAllocateDuringUnwind>,
-            FileModules<'_>,
+            UnwinderAarch64<MappedBytes<'m>, MayAllocateDuringUnwind>,
+            FileModules<'_, 'm>,
+            B,
             W,
             E,
-        >(alloc, recording, files, &maker, options, out, err);
+        >(alloc, recording, files, &maker, samples, options, out, err);
     }
-    unwind_all::<UnwinderX86_64<Vec<u8>, MayAllocateDuringUnwind>, FileModules<'_>, W, E>(
-        alloc, recording, files, &maker, options, out, err,
-    )
+    unwind_all::<
+        UnwinderX86_64<MappedBytes<'m>, MayAllocateDuringUnwind>,
+        FileModules<'_, 'm>,
+        B,
+        W,
+        E,
+    >(alloc, recording, files, &maker, samples, options, out, err)
 }
 
 /// Unwinds all samples of a recording.
-fn unwind_all<U: Sampled, M: ModuleMaker<U>, W: Write, E: Write>(
+fn unwind_all<U: Sampled, M: ModuleMaker<U>, B: SampleSource, W: Write, E: Write>(
     alloc: Global,
     recording: &Recording<'_>,
     files: &Files,
     maker: &M,
+    samples: &B,
     options: Options<'_>,
     out: &mut W,
     err: &mut E,
@@ -131,22 +170,24 @@ fn unwind_all<U: Sampled, M: ModuleMaker<U>, W: Write, E: Write>(
 where
     U::Cache: Drop,
     U::Module: Drop,
-    ensures made { IfOk result (λ unwound. IfOk unwound.ended (λ refusal. IsWhole recording.now refusal × ((samples : List Told)
+    ensures made { IfOk result (λ unwound. IfOk unwound.ended (λ refusal. IsWhole recording.now refusal × ((whole : List RecordView)
+        × Each (IsCompleted (B.gives samples.now)) (records_in recording.now.records.items) whole × ((told : List Told)
         × Each (IsToldOf (M.module_of maker.now) U.walker U.is_note U.starts options.entry files.now (map attribute_view recording.now.events.attributes.items))
-        (samples_from files.now beginning (records_in recording.now.records.items)) samples
-        × IsMade options.entry.frames samples unwound.folded (W.contents out.old) (W.contents out.new)
-        × IsSaid samples (records_in recording.now.records.items) (E.contents err.old) (E.contents err.new)))) }
+        (samples_from files.now beginning whole) told
+        × IsMade options.entry.frames told unwound.folded (W.contents out.old) (W.contents out.new)
+        × IsSaid told whole (E.contents err.old) (E.contents err.new))))) }
     ensures ended { IfOk result (λ unwound. IfErr unwound.ended (MayEndAt recording.now files.now)) }
-    ensures before { IfOk result (λ unwound. (refusal : RecordingError) → unwound.ended ≡ Err (Refused refusal) → (samples : List Told)
+    ensures before { IfOk result (λ unwound. (refusal : RecordingError) → unwound.ended ≡ Err (Refused refusal) → (whole : List RecordView)
+        × Each (IsCompleted (B.gives samples.now)) (before_refusal (records_in recording.now.records.items)) whole × ((told : List Told)
         × Each (IsToldOf (M.module_of maker.now) U.walker U.is_note U.starts options.entry files.now (map attribute_view recording.now.events.attributes.items))
-        (samples_from files.now beginning (before_refusal (records_in recording.now.records.items))) samples
-        × IsMade options.entry.frames samples unwound.folded (W.contents out.old) (W.contents out.new)
-        × IsSaid samples (before_refusal (records_in recording.now.records.items)) (E.contents err.old) (E.contents err.new)) }
+        (samples_from files.now beginning whole) told
+        × IsMade options.entry.frames told unwound.folded (W.contents out.old) (W.contents out.new)
+        × IsSaid told whole (E.contents err.old) (E.contents err.new))) }
     ensures refused { IfErr result (λ error. error ≡ OutOfMemory) }
     ensures unwritten { OnErr result (out.new ≡ out.old) }
 {
     let mut run: Run<U> = Run::new(alloc)?;
-    let taken = run.take_records(alloc, recording, files, maker, options, out);
+    let taken = run.take_records(alloc, recording, files, maker, samples, options, out);
     let counted = write_counts(err, &run.counts);
     let ended = match counted.and(taken) {
         Ok(()) => Ok(recording.refusal),

@@ -109,11 +109,11 @@ impl<'a> BuildIdsByName<'a> {
 }
 
 /// Reads the files whose code is mapped, and the maps of code that is in no file, each once. Fails only where an allocation does, or from 2^32 files on.
-pub fn read_files<S: FileSource + MapSource>(
+pub fn read_files<'m, S: FileSource + MapSource>(
     alloc: Global,
     recording: &Recording<'_>,
     source: &S,
-) -> Result<Files, StacksError>
+) -> Result<Files<'m>, StacksError>
     ensures read { IfOk result (λ files. AreFilesOf (S.source source.now) (S.gives_map source.now)
         (map file_build_id_view recording.now.build_ids.items) (records_in recording.now.records.items) files) }
     ensures refused { IfErr result (λ error. error ≡ StacksError.OutOfMemory) }

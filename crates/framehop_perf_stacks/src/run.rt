@@ -25,7 +25,7 @@ ghost use Rattle.framehop_perf_stacks.specs.Names.{named_in};
 ghost use Rattle.framehop_perf_stacks.specs.Processes.{mapped_in, IsServed};
 ghost use Rattle.framehop_perf_stacks.specs.Recording.{sample_in, records_in};
 ghost use Rattle.framehop_perf_stacks.specs.Run.{AreCounted, CountsMore, is_sample, samples_in_kind, sample_refusal};
-ghost use Rattle.framehop_perf_stacks.specs.Samples.{State, beginning, state_in, state_after, state_over, drawn_over, Agrees, samples_from, SampleStack, of_walk, of_chain, unread_stack, IsStackOfChain, is_copy_full, is_unread_end, told_by, copied_memory, NotedIf, IsUserStack, IsToldAt, IsToldOf, Told, lost_after, lost_over, Each, IsTaken, AreTaken};
+ghost use Rattle.framehop_perf_stacks.specs.Samples.{State, beginning, state_in, state_after, state_over, drawn_over, Agrees, samples_from, SampleStack, of_walk, of_chain, unread_stack, IsStackOfChain, is_copy_full, is_unread_end, told_by, copied_memory, NotedIf, IsUserStack, IsToldAt, IsToldWith, Told, lost_after, lost_over, Each, IsTaken, AreTaken};
 ghost use Rattle.framehop_frames.specs.Line.{end_name};
 ghost use Rattle.framehop_frames.specs.Notes.{option_noted, AreStackNotes};
 ghost use Rattle.framehop_frames.specs.Stack.{no_stack, shown_frame, stack_view, option_stack_view};
@@ -42,6 +42,7 @@ use crate::machine::Sampled;
 use crate::names::Names;
 use crate::processes::Processes;
 use crate::recording::{Recording, sample_of};
+use crate::sample_source::SampleSource;
 use crate::sample_text::{chain_block, chain_line, folded_name, head_of, push_tail, walked_line};
 use crate::stack::walk_sample;
 use framehop::Error;
@@ -385,13 +386,15 @@ where
     ///
     /// - `Recording` where the record is no sample and is too short for its kind;
     /// - `OutOfMemory`, `GenerationsExhausted`, `TooManySamples` and `CannotWrite`.
-    fn take_record<M: ModuleMaker<U>, W: Write>(
+    fn take_record<M: ModuleMaker<U>, B: SampleSource, W: Write>(
         &mut self,
         alloc: Global,
         events: &Events<'_>,
         files: &Files,
         maker: &M,
+        samples: &B,
         record: Record<'_>,
+        buffer: &mut Vec<u8>,
         options: Options<'_>,
         out: &mut W,
     ) -> Result<(), StacksError>
@@ -401,7 +404,7 @@ where
         ensures state { OnOk result (Agrees self.new.names self.new.processes.by_pid
             (state_after files.now (record_view «record».entry) (state_in self.old.names self.old.processes.by_pid))) }
         ensures sample { «record».entry.kind ≡ PERF_RECORD_SAMPLE → OnOk result ((told : Told)
-            × IsToldOf (M.module_of maker.now) U.walker U.is_note U.starts options.entry files.now (map attribute_view events.now.attributes.items)
+            × IsToldWith (M.module_of maker.now) U.walker U.is_note U.starts options.entry files.now (B.gives samples.now) (map attribute_view events.now.attributes.items)
             (record_view «record».entry, state_in self.old.names self.old.processes.by_pid) told
             × IsTaken options.entry.frames told self.old.counts self.new.counts (W.contents out.old) (W.contents out.new)) }
         ensures other { «record».entry.kind ≢ PERF_RECORD_SAMPLE → HasSameSamples self.old.counts self.new.counts × (out.new ≡ out.old) }
@@ -416,6 +419,8 @@ where
             (samples + samples_in_kind «record».entry.kind)) }
     {
         if record.kind == SAMPLE {
+            let body = samples.body(record, buffer)?;
+            let record = Record { body, ..record };
             self.take_sample_record(alloc, events, files, record, options, out)?;
             return Ok(());
         }
@@ -430,13 +435,14 @@ where
         Ok(())
     }
 
-    /// Takes the records of a recording in, in order.
-    pub fn take_records<M: ModuleMaker<U>, W: Write>(
+    /// Takes the records of a recording in, in order, with the bodies that a source gives for its samples.
+    pub fn take_records<M: ModuleMaker<U>, B: SampleSource, W: Write>(
         &mut self,
         alloc: Global,
         recording: &Recording<'_>,
         files: &Files,
         maker: &M,
+        samples: &B,
         options: Options<'_>,
         out: &mut W,
     ) -> Result<(), StacksError>
@@ -446,10 +452,10 @@ where
         ensures counted { OnOk result (AreCounted options.entry.frames (count_by is_sample recording.now.records.items) self.new.counts) }
         ensures state { (state : State) → Agrees self.old.names self.old.processes.by_pid state → OnOk result
             (Agrees self.new.names self.new.processes.by_pid (state_over files.now (records_in recording.now.records.items) state)) }
-        ensures told { (state : State) → Agrees self.old.names self.old.processes.by_pid state → OnOk result ((samples : List Told)
-            × Each (IsToldOf (M.module_of maker.now) U.walker U.is_note U.starts options.entry files.now (map attribute_view recording.now.events.attributes.items))
-            (samples_from files.now state (records_in recording.now.records.items)) samples
-            × AreTaken options.entry.frames samples self.old.counts self.new.counts (W.contents out.old) (W.contents out.new)) }
+        ensures told { (state : State) → Agrees self.old.names self.old.processes.by_pid state → OnOk result ((told : List Told)
+            × Each (IsToldWith (M.module_of maker.now) U.walker U.is_note U.starts options.entry files.now (B.gives samples.now) (map attribute_view recording.now.events.attributes.items))
+            (samples_from files.now state (records_in recording.now.records.items)) told
+            × AreTaken options.entry.frames told self.old.counts self.new.counts (W.contents out.old) (W.contents out.new)) }
         ensures read { OnOk result (first_refusal (records_in recording.now.records.items) ≡ None) }
         ensures refused { (state : State) → Agrees self.old.names self.old.processes.by_pid state → IfErr result (MayEnd options.entry.frames
             (first_refusal (records_in recording.now.records.items))
@@ -459,18 +465,21 @@ where
         ensures lost_before { (refusal : RecordingError) → result ≡ Err (RecordingRefused refusal)
             → self.new.counts.lost ≡ lost_over (before_refusal (records_in recording.now.records.items)) self.old.counts.lost }
         ensures before { (state : State) → Agrees self.old.names self.old.processes.by_pid state
-            → (refusal : RecordingError) → result ≡ Err (RecordingRefused refusal) → (samples : List Told)
-            × Each (IsToldOf (M.module_of maker.now) U.walker U.is_note U.starts options.entry files.now (map attribute_view recording.now.events.attributes.items))
-            (samples_from files.now state (before_refusal (records_in recording.now.records.items))) samples
-            × AreTaken options.entry.frames samples self.old.counts self.new.counts (W.contents out.old) (W.contents out.new) }
+            → (refusal : RecordingError) → result ≡ Err (RecordingRefused refusal) → (told : List Told)
+            × Each (IsToldWith (M.module_of maker.now) U.walker U.is_note U.starts options.entry files.now (B.gives samples.now) (map attribute_view recording.now.events.attributes.items))
+            (samples_from files.now state (before_refusal (records_in recording.now.records.items))) told
+            × AreTaken options.entry.frames told self.old.counts self.new.counts (W.contents out.old) (W.contents out.new) }
     {
+        let mut buffer = Vec::new(alloc);
         for timed in &recording.records {
             self.take_record(
                 alloc,
                 &recording.events,
                 files,
                 maker,
+                samples,
                 timed.record,
+                &mut buffer,
                 options,
                 out,
             )?;

@@ -1,7 +1,25 @@
 use Rattle.std.proofs.lemmas.Result.{IfOk-weaker}
+use Rattle.framehop_perf_stacks.proofs.PrintedLemmas.{made-own}
 use Rattle.framehop_perf_stacks.proofs.program.write_stacks.Goals as goal
 
 pub returns-clause-made : goal.returns-clause-made
-returns-clause-made g c = IfOk-weaker c.unwind_recording.result _ _
-    (λ unwound made. (c.in_ok-read_recording.field-0, c.in_ok-read_recording.ensures.exact, (c.in_ok-recording.recording, c.in_ok-recording.ensures.chosen, (c.in_ok-files.files, c.in_ok-files.ensures.read, (g.E.Write.contents c.write_problems.new.err, c.in_ok-write_problems.ensures.written, made)))))
-    c.unwind_recording.ensures.made
+returns-clause-made g c = IfOk-weaker c.write_recording_stacks.result _ _
+    (λ unwound made. (
+      c.in_ok-read_recording.field-0,
+      c.in_ok-read_recording.ensures.exact,
+      (
+        c.in_ok-recording.recording,
+        c.in_ok-recording.ensures.chosen,
+        (
+          made.0,
+          made.1,
+          (
+            made.2.0,
+            made.2.1,
+            made-own c.in_ok-recording.recording made.0 c.args.options unwound.folded (g.W.Write.contents c.args.out.now)
+                (g.W.Write.contents c.write_recording_stacks.new.out) made.2.0 (g.E.Write.contents c.write_recording_stacks.new.err) unwound.ended made.2.2,
+          ),
+        ),
+      ),
+    ))
+    c.write_recording_stacks.ensures.made

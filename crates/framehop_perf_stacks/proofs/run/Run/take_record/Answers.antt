@@ -42,7 +42,8 @@ returns-then-record-eq-SAMPLE-clause-state g c =
 
 pub returns-then-record-eq-SAMPLE-clause-sample : goal.returns-then-record-eq-SAMPLE-clause-sample
 returns-then-record-eq-SAMPLE-clause-sample g c = λ kind.
-    c.in_ok-take_sample_record.ensures.told (g.M.ModuleMaker.module_of c.args.maker.now) c.requires.served
+    let told = c.in_ok-take_sample_record.ensures.told (g.M.ModuleMaker.module_of c.args.maker.now) c.requires.served in
+    (told.0, (c.in_ok-body.body.now, c.in_ok-body.ensures, told.1), told.2)
 
 pub returns-then-record-eq-LOST-clause-state : goal.returns-then-record-eq-LOST-clause-state
 returns-then-record-eq-LOST-clause-state g c =

@@ -3,13 +3,14 @@ use Rattle.std.specs.Prelude.{is_some}
 use Rattle.std.specs.List.{count_by}
 use Rattle.std.proofs.lemmas.List.{at_drop_all}
 use Rattle.framehop_recording.specs.Attributes.{attribute_view}
+use Rattle.framehop_perf_stacks.specs.Bodies.{with_body}
 use Rattle.framehop_perf_stacks.specs.Ended.{first_refusal, before_refusal, MayEnd}
 use Rattle.framehop_recording.specs.declared.error.RecordingError.{RecordingError}
 use Rattle.framehop_perf_stacks.specs.declared.error.StacksError.{StacksError}
 use Rattle.framehop_perf_stacks.specs.declared.error.StacksError.TheVariants.{Recording as Refused}
 use Rattle.framehop_perf_stacks.specs.Recording.{records_in, sample_in}
 use Rattle.framehop_perf_stacks.specs.Run.{AreCounted, is_sample}
-use Rattle.framehop_perf_stacks.specs.Samples.{state_in, state_over, samples_from, Agrees, Each, IsToldOf, lost_over}
+use Rattle.framehop_perf_stacks.specs.Samples.{state_in, state_over, samples_from, Agrees, Each, IsToldWith, lost_over}
 use Rattle.framehop_perf_stacks.proofs.EndedLemmas.{all-before, ends_more, failed_as, same_error}
 use Rattle.framehop_perf_stacks.proofs.SoFarLemmas.{IsSoFar, step, told-before, loses-before, refused-here, draws-here, samples-within, records-left, samples-next}
 use Rattle.framehop_perf_stacks.proofs.StateLemmas.{text-same, sample-unrefused}
@@ -42,6 +43,7 @@ loop-timed-preserved g c =
     let records = c.args.recording.now.records.items in
     let attributes = map attribute_view c.args.recording.now.events.attributes.items in
     let module_of = g.M.ModuleMaker.module_of c.args.maker.now in
+    let gives = g.B.SampleSource.gives c.args.samples.now in
     let text = text-same module_of g.U.Steps.walker g.U.Steps.is_note g.U.Sampled.starts c.args.options c.args.files.now in
     let after = c.in_ok-take_record.ensures in
     let items = c.deref-timed-items.result.now in
@@ -55,8 +57,8 @@ loop-timed-preserved g c =
           let so = l.invariant.2 first agrees in
           let left = records-left items records same l.timed-index _ within in
           step c.args.files.now
-          (IsToldOf module_of g.U.Steps.walker g.U.Steps.is_note g.U.Sampled.starts c.args.options c.args.files.now attributes)
-          (λ r state other named mapped. text state other named mapped (sample_in attributes r))
+          (IsToldWith module_of g.U.Steps.walker g.U.Steps.is_note g.U.Sampled.starts c.args.options c.args.files.now gives attributes)
+          (λ r state other named mapped told given. (given.0, given.1, text state other named mapped (sample_in attributes (with_body r given.0)) told given.2))
           c.args.options.frames (records_in records) first c.args.self.now.counts (g.W.Write.contents c.args.out.now)
           c.args.self.now.processes.generations
           _ (records_in (drop (l.timed-index + 1) records)) l.self.names c.take_record.new.self.names
@@ -64,7 +66,7 @@ loop-timed-preserved g c =
           (g.W.Write.contents l.out) (g.W.Write.contents c.take_record.new.out)
           l.self.processes.generations c.take_record.new.self.processes.generations
           (subst (λ rest. IsSoFar c.args.files.now
-          (IsToldOf module_of g.U.Steps.walker g.U.Steps.is_note g.U.Sampled.starts c.args.options c.args.files.now attributes)
+          (IsToldWith module_of g.U.Steps.walker g.U.Steps.is_note g.U.Sampled.starts c.args.options c.args.files.now gives attributes)
           c.args.options.frames (records_in records) first c.args.self.now.counts (g.W.Write.contents c.args.out.now)
           c.args.self.now.processes.generations rest
           l.self.names l.self.processes.by_pid l.self.counts (g.W.Write.contents l.out) l.self.processes.generations) left so)
@@ -92,8 +94,8 @@ returns-clause-told g c = λ first agrees.
     let all : so.told ≡ samples_from files first (records_in records) =
     sym (append-nil so.told) ∙ ap (λ rest. so.told ++ rest) (sym none) ∙ so.samples in (
       so.texts,
-      subst (λ told. Each (IsToldOf (g.M.ModuleMaker.module_of c.args.maker.now) g.U.Steps.walker g.U.Steps.is_note g.U.Sampled.starts
-          c.args.options files (map attribute_view c.args.recording.now.events.attributes.items)) told so.texts) all so.each,
+      subst (λ told. Each (IsToldWith (g.M.ModuleMaker.module_of c.args.maker.now) g.U.Steps.walker g.U.Steps.is_note g.U.Sampled.starts
+          c.args.options files (g.B.SampleSource.gives c.args.samples.now) (map attribute_view c.args.recording.now.events.attributes.items)) told so.texts) all so.each,
       so.taken,
     )
 
@@ -116,8 +118,8 @@ returns-in_err-take_record-clause-before g c = λ first agrees refusal is.
     let files = c.args.files.now in
     let frames = c.args.options.frames in
     let records = c.args.recording.now.records.items in
-    let IsText = IsToldOf (g.M.ModuleMaker.module_of c.args.maker.now) g.U.Steps.walker g.U.Steps.is_note g.U.Sampled.starts
-    c.args.options files (map attribute_view c.args.recording.now.events.attributes.items) in
+    let IsText = IsToldWith (g.M.ModuleMaker.module_of c.args.maker.now) g.U.Steps.walker g.U.Steps.is_note g.U.Sampled.starts
+    c.args.options files (g.B.SampleSource.gives c.args.samples.now) (map attribute_view c.args.recording.now.events.attributes.items) in
     let items = c.deref-timed-items.result.now in
     let same = c.deref-timed-items.ensures.value in
     let within : l.timed-index < length items = omega arith in
@@ -157,8 +159,8 @@ returns-in_err-take_record-clause-lost_before g c = λ refusal is.
     let frames = c.args.options.frames in
     let records = c.args.recording.now.records.items in
     let begun = state_in c.args.self.now.names c.args.self.now.processes.by_pid in
-    let IsText = IsToldOf (g.M.ModuleMaker.module_of c.args.maker.now) g.U.Steps.walker g.U.Steps.is_note g.U.Sampled.starts
-    c.args.options files (map attribute_view c.args.recording.now.events.attributes.items) in
+    let IsText = IsToldWith (g.M.ModuleMaker.module_of c.args.maker.now) g.U.Steps.walker g.U.Steps.is_note g.U.Sampled.starts
+    c.args.options files (g.B.SampleSource.gives c.args.samples.now) (map attribute_view c.args.recording.now.events.attributes.items) in
     let items = c.deref-timed-items.result.now in
     let within : l.timed-index < length items = omega arith in
     let left = records-left items records c.deref-timed-items.ensures.value l.timed-index _ within in
@@ -180,8 +182,8 @@ returns-in_err-take_record-clause-refused g c = λ first agrees.
     let files = c.args.files.now in
     let frames = c.args.options.frames in
     let records = c.args.recording.now.records.items in
-    let IsText = IsToldOf (g.M.ModuleMaker.module_of c.args.maker.now) g.U.Steps.walker g.U.Steps.is_note g.U.Sampled.starts
-    c.args.options files (map attribute_view c.args.recording.now.events.attributes.items) in
+    let IsText = IsToldWith (g.M.ModuleMaker.module_of c.args.maker.now) g.U.Steps.walker g.U.Steps.is_note g.U.Sampled.starts
+    c.args.options files (g.B.SampleSource.gives c.args.samples.now) (map attribute_view c.args.recording.now.events.attributes.items) in
     let items = c.deref-timed-items.result.now in
     let same = c.deref-timed-items.ensures.value in
     let within : l.timed-index < length items = omega arith in

@@ -4,7 +4,7 @@ use Rattle.framehop_recording.specs.Attributes.{attribute_view}
 use Rattle.framehop_perf_stacks.specs.Processes.{IsServed}
 use Rattle.framehop_perf_stacks.specs.Recording.{records_in}
 use Rattle.framehop_perf_stacks.specs.Run.{AreCounted, is_sample}
-use Rattle.framehop_perf_stacks.specs.Samples.{State, Agrees, IsToldOf}
+use Rattle.framehop_perf_stacks.specs.Samples.{State, Agrees, IsToldWith}
 use Rattle.framehop_perf_stacks.proofs.SoFarLemmas.{IsSoFar}
 use Rattle.framehop_perf_stacks.proofs.run.Run.take_records.Given as goal
 
@@ -14,8 +14,8 @@ invariant-loop-timed g l =
     l.self.processes.by_pid l.self.processes.generations
     × AreCounted l.options.frames (count_by is_sample (take l.timed-index l.recording.records.items)) l.self.counts
     × ((first : State) → Agrees l.initial.self.names l.initial.self.processes.by_pid first →
-    IsSoFar l.files (IsToldOf (g.M.ModuleMaker.module_of l.maker) g.U.Steps.walker g.U.Steps.is_note g.U.Sampled.starts l.options l.files
-    (map attribute_view l.recording.events.attributes.items)) l.options.frames (records_in l.recording.records.items) first
+    IsSoFar l.files (IsToldWith (g.M.ModuleMaker.module_of l.maker) g.U.Steps.walker g.U.Steps.is_note g.U.Sampled.starts l.options l.files
+    (g.B.SampleSource.gives l.samples) (map attribute_view l.recording.events.attributes.items)) l.options.frames (records_in l.recording.records.items) first
     l.initial.self.counts (g.W.Write.contents l.initial.out) l.initial.self.processes.generations
     (records_in (drop l.timed-index l.recording.records.items))
     l.self.names l.self.processes.by_pid l.self.counts (g.W.Write.contents l.out) l.self.processes.generations)

@@ -1,0 +1,12 @@
+use Rattle.std.proofs.Common.{rules}
+use Rattle.std.proofs.lemmas.List.Sorted.{answers_always}
+use Rattle.framehop_perf_stacks.proofs.kept.sort_by_time.Goals as goal
+
+pub returns : goal.returns
+returns c = record {
+  ordered = (
+    c.in_ok-sort_by_key.ensures.permutation,
+    c.in_ok-sort_by_key.ensures.sorted (λ r. r.time) (answers_always _ _ _ (λ f a r g h. search rules)),
+    c.in_ok-sort_by_key.ensures.stable (λ r. r.time) (answers_always _ _ _ (λ f a r g h. search rules)),
+  );
+}

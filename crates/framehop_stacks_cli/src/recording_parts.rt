@@ -1,0 +1,222 @@
+//! Recordings that are read in parts: first all but the bodies of samples, and each of these when its sample is unwound.
+use framehop_perf_stacks::kept::KeptRecords;
+use framehop_perf_stacks::sample_source::SampleSource;
+use framehop_recording::error::RecordingError;
+use framehop_recording::events::Events;
+use framehop_recording::header::{Header, Section, read_header};
+use framehop_recording::records::{Record, read_records};
+use std::alloc::{AllocError, Global};
+use std::cell::Cell;
+use std::fs::File;
+use std::io::ErrorKind;
+use std::os::unix::fs::FileExt;
+use std::{fs, io};
+
+/// The size of the smallest file that is read in parts, in bytes: 1 MiB.
+const SMALLEST_FILE: u64 = 0x10_0000;
+
+/// How many bytes of records are read at a time: 1 MiB.
+const PIECE: u64 = 0x10_0000;
+
+/// The most bytes before and after the records: 64 MiB.
+const LARGEST_FRAME: u64 = 0x400_0000;
+
+/// The size of a recording's header, in bytes.
+const HEADER_SIZE: u64 = 104;
+
+/// The size of where a section lies, in bytes: `perf_file_section`.
+const SECTION_SIZE: usize = 16;
+
+/// The size of a record's header, in bytes: `perf_event_header`.
+const RECORD_HEADER_SIZE: usize = 8;
+
+/// A recording of which all is read but its records.
+#[derive(Drop)]
+pub struct RecordingParts {
+    file: File,
+    /// Its size, in bytes.
+    size: u64,
+    /// Where its records are.
+    records: Section,
+    /// What is before and after the records, as a recording of its own that has none.
+    frame: Vec<u8>,
+    /// The header of that.
+    header: Header,
+}
+
+impl RecordingParts {
+    /// Opens a recording, and reads what is before and after its records. `None` of what is no regular file or no recording,
+    /// of a small one, and of one that is not as `perf record` writes it: such a file is read whole.
+    pub fn open(rt: &HostRuntime, path: &str) -> io::Result<Option<RecordingParts>> {
+        let metadata = fs::metadata(rt, path)?;
+        if !metadata.is_file() || metadata.len() < SMALLEST_FILE {
+            return Ok(None);
+        }
+        let (alloc, size) = (rt.alloc(), metadata.len());
+        let file = File::open(rt, path)?;
+        let start = read_at(alloc, &file, 0, HEADER_SIZE)?;
+        let Ok(header) = read_header(start.as_slice()) else {
+            return Ok(None);
+        };
+        let records = header.records;
+        let end = records.offset.saturating_add(records.size);
+        if end > size || size - end > LARGEST_FRAME || records.offset > LARGEST_FRAME {
+            return Ok(None);
+        }
+        let mut frame = read_at(alloc, &file, 0, records.offset)?;
+        let after = read_at(alloc, &file, end, size - end)?;
+        frame.extend_from_slice(after.as_slice())?;
+        if !move_sections(frame.as_mut_slice(), &header) {
+            return Ok(None);
+        }
+        Ok(Some(RecordingParts {
+            file,
+            size,
+            records,
+            frame,
+            header: Header {
+                records: Section { size: 0, ..records },
+                ..header
+            },
+        }))
+    }
+
+    /// Returns its size, in bytes.
+    pub fn size(&self) -> u64 {
+        self.size
+    }
+
+    /// Returns what is before and after its records, as a recording that has none.
+    pub fn frame(&self) -> (&[u8], &Header) {
+        (self.frame.as_slice(), &self.header)
+    }
+
+    /// Returns the bodies of its samples.
+    pub fn bodies(&self) -> SampleBodies<'_> {
+        SampleBodies {
+            file: &self.file,
+            failure: Cell::new(None),
+        }
+    }
+
+    /// Reads its records, one piece after another, and returns what is kept of them; `None` where a record is refused.
+    pub fn read_records(
+        &self,
+        alloc: Global,
+        events: &Events<'_>,
+    ) -> io::Result<Option<KeptRecords>> {
+        let mut kept = KeptRecords::new(alloc);
+        let mut piece = Vec::new(alloc);
+        let (mut at, mut left) = (self.records.offset, self.records.size);
+        for _piece in 0..self.records.size {
+            let size = left.min(PIECE);
+            piece.resize(size as usize, 0u8)?;
+            self.file.read_exact_at(piece.as_mut_slice(), at)?;
+            let section = Section { offset: 0, size };
+            let Ok(read) = read_records(alloc, piece.as_slice(), section) else {
+                return Err(ErrorKind::OutOfMemory.into());
+            };
+            for record in &read.records {
+                let offset = at.saturating_add(record.offset);
+                kept.push(alloc, events, Record { offset, ..*record })?;
+            }
+            let Some(taken) = size_of_whole_records(size, size == left, read.refusal) else {
+                return Ok(None);
+            };
+            at = at.saturating_add(taken);
+            left = left.saturating_sub(taken);
+            if left == 0 {
+                break;
+            }
+        }
+        Ok(Some(kept))
+    }
+}
+
+/// The bodies of a recording's samples in its file.
+#[derive(Drop)]
+pub struct SampleBodies<'a> {
+    file: &'a File,
+    /// Why one could not be read.
+    failure: Cell<Option<io::Error>>,
+}
+
+impl SampleSource for SampleBodies<'_> {
+    // what a file gives is not known
+    ghost gives = { λ bodies r body. Unit {0} };
+
+    fn body<'a>(
+        &self,
+        sample: Record<'a>,
+        buffer: &'a mut Vec<u8>,
+    ) -> Result<&'a [u8], AllocError> {
+        if let Err(error) = self.read(sample.offset, buffer) {
+            if error.kind() == ErrorKind::OutOfMemory {
+                return Err(AllocError);
+            }
+            self.failure.set(Some(error));
+            buffer.clear();
+        }
+        Ok(buffer.as_slice())
+    }
+}
+
+impl SampleBodies<'_> {
+    /// Returns why a body could not be read, if so. It was taken for one without bytes.
+    pub fn failure(&self) -> Option<io::Error> {
+        self.failure.take()
+    }
+
+    /// Reads the body of the record at an offset of the file. The record's header has its size.
+    fn read(&self, offset: u64, body: &mut Vec<u8>) -> io::Result<()> {
+        let mut header = [0; RECORD_HEADER_SIZE];
+        self.file.read_exact_at(&mut header, offset)?;
+        let [_, _, _, _, _, _, low, high] = header;
+        let size = usize::from(u16::from_le_bytes([low, high])).saturating_sub(RECORD_HEADER_SIZE);
+        body.resize(size, 0u8)?;
+        let start = offset.saturating_add(RECORD_HEADER_SIZE as u64);
+        self.file.read_exact_at(body.as_mut_slice(), start)
+    }
+}
+
+/// Returns how many bytes the whole records of a piece take, by the piece's size, whether it is the last, and the refusal at its
+/// end. `None` where a record is refused that is not only cut off by the end of the piece.
+fn size_of_whole_records(size: u64, is_last: bool, refusal: Option<RecordingError>) -> Option<u64> {
+    match refusal {
+        None => Some(size),
+        Some(RecordingError::Eof { offset }) if !is_last && offset > 0 => Some(offset),
+        Some(_) => None,
+    }
+}
+
+/// Moves the sections after the records of a recording to where they are without its records. Returns whether all of them are
+/// after the records.
+fn move_sections(frame: &mut [u8], header: &Header) -> bool {
+    let records = header.records;
+    let Some(sections) = frame.get_mut(records.offset as usize..) else {
+        return false;
+    };
+    let count = header.features.count_ones() as usize;
+    let Some(sections) = sections.get_mut(..SECTION_SIZE * count) else {
+        return false;
+    };
+    for section in sections.chunks_exact_mut(SECTION_SIZE) {
+        let Some((offset, _)) = section.split_first_chunk_mut::<8>() else {
+            return false;
+        };
+        let end = records.offset.saturating_add(records.size);
+        let place = u64::from_le_bytes(*offset);
+        if place < end {
+            return false;
+        }
+        *offset = (place - records.size).to_le_bytes();
+    }
+    true
+}
+
+/// Reads so many bytes of a file from an offset on.
+fn read_at(alloc: Global, file: &File, offset: u64, size: u64) -> io::Result<Vec<u8>> {
+    let mut bytes = Vec::from_elem(alloc, 0u8, size as usize)?;
+    file.read_exact_at(bytes.as_mut_slice(), offset)?;
+    Ok(bytes)
+}
