@@ -1,7 +1,7 @@
 //! The check of a file.
 use crate::allowed::Allowed;
 use crate::text::{push_alarm, push_note, push_summary};
-use anyhow::Result;
+use framehop_bytes::bytes::{back, front};
 use framehop_bytes::string::string_at;
 use framehop_cfi::entry::{EntryHead, FrameDescriptionEntry, UnwindSection, UnwindSectionType};
 use framehop_cfi::extent::read_extent;
@@ -29,6 +29,9 @@ const EM_AARCH64: u16 = 183;
 
 /// `SHF_EXECINSTR`.
 const SHF_EXECINSTR: u64 = 4;
+
+/// How many bytes of a name are read: more than are printed.
+const LONGEST_NAME: usize = 4096;
 
 /// What is printed.
 #[derive(Clone, Copy)]
@@ -79,7 +82,7 @@ pub fn check_file(
     file: &[u8],
     options: Options,
     allowed: &Allowed<'_>,
-) -> Result<Checked> {
+) -> Result<Checked, AllocError> {
     let opened = match open(alloc, file) {
         Ok(opened) => opened,
         Err(error) => return Ok(Checked::Refused(Refusal::Elf(error))),
@@ -98,7 +101,9 @@ pub fn check_file(
             allowed: 0,
             unreadable: 0,
             without_code: 0,
+            sharing: 0,
         },
+        room: Room::new(file.len(), contents.len()),
         text: String::new(alloc),
     };
     match opened.header.e_machine {
@@ -124,7 +129,7 @@ pub fn check_file(
     let others = findings.others;
     let mut text = findings.text;
     push_summary(path, counts, others, &mut text)?;
-    let is_good = counts.alarmed == others.allowed && others.unreadable == 0;
+    let is_good = counts.alarmed == others.allowed && others.unreadable == 0 && others.sharing == 0;
     Ok(Checked::Text { text, is_good })
 }
 
@@ -149,8 +154,7 @@ fn open(alloc: Global, file: &[u8]) -> Result<Opened<'_>, ElfError> {
     Ok(Opened {
         header,
         parts: Parts {
-            file,
-            sections,
+            code: code_sections(alloc, file, sections.as_slice())?,
             symbols,
             strings,
         },
@@ -169,11 +173,19 @@ pub enum Checked {
 /// The parts of a file that are needed.
 #[derive(Drop)]
 struct Parts<'a> {
-    file: &'a [u8],
-    sections: Vec<SectionHeader>,
+    /// In the order of their addresses.
+    code: Vec<CodeSection<'a>>,
     symbols: SymbolTable,
     /// The names of symbols.
     strings: &'a [u8],
+}
+
+/// A section of code.
+#[derive(Clone, Copy)]
+struct CodeSection<'a> {
+    /// Its first address (SVMA).
+    address: u64,
+    contents: &'a [u8],
 }
 
 /// Counts beside those of the report.
@@ -185,6 +197,39 @@ pub struct Others {
     pub unreadable: u64,
     /// FDEs whose code is not in the file.
     pub without_code: u64,
+    /// FDEs that are not checked, since they share code or a CIE with too many others.
+    pub sharing: u64,
+}
+
+/// How much is checked yet: as much as FDEs take that do not share code, and few instructions of a CIE.
+#[derive(Clone, Copy)]
+struct Room {
+    /// Bytes of code.
+    code: usize,
+    /// Bytes of instructions of CIEs, those of an FDE's at each FDE.
+    instructions: usize,
+}
+
+impl Room {
+    /// Returns the room for a file whose section of rows has a size, in bytes as the file's. In a file that a linker wrote no
+    /// FDE shares code with another, and the instructions of a CIE take fewer bytes than an FDE.
+    fn new(file_size: usize, section_size: usize) -> Self {
+        Room {
+            code: file_size.saturating_mul(2),
+            instructions: section_size.saturating_mul(4),
+        }
+    }
+
+    /// Takes the room that an FDE needs with its code, in bytes. Returns whether there is so much.
+    fn take(&mut self, fde: &FrameDescriptionEntry, code_size: usize) -> bool {
+        let instructions = fde.cie.end.saturating_sub(fde.cie.instructions);
+        if code_size > self.code || instructions > self.instructions {
+            return false;
+        }
+        self.code -= code_size;
+        self.instructions -= instructions;
+        true
+    }
 }
 
 /// What the check of a file has found so far.
@@ -192,6 +237,7 @@ pub struct Others {
 struct Findings {
     report: Report,
     others: Others,
+    room: Room,
     text: String,
 }
 
@@ -284,38 +330,48 @@ fn check_at<C: Code>(
         findings.others.without_code = findings.others.without_code.saturating_add(1);
         return Ok(());
     };
+    if !findings.room.take(&fde, code.len()) {
+        findings.others.sharing = findings.others.sharing.saturating_add(1);
+        return Ok(());
+    }
     findings.report.alarms.clear();
     findings.report.notes.clear();
     checker.check_function::<C>(section, &fde, code, &mut findings.report)?;
     push_alarms::<C>(parts, &fde, code, options, allowed, findings)
 }
 
-/// Returns the code of an FDE.
+/// Returns the code of an FDE, if the nearest section that begins at or below its first address has all of it.
 fn code_of<'a>(parts: &Parts<'a>, fde: &FrameDescriptionEntry) -> Option<&'a [u8]> {
-    for section in parts.sections.iter() {
-        if let Some(code) = code_in(parts.file, *section, fde) {
-            return Some(code);
-        }
+    let later = parts
+        .code
+        .partition_point(|section| section.address <= fde.initial_address);
+    let section = parts.code.get(later.checked_sub(1)?)?;
+    let start = usize::try_from(fde.initial_address.checked_sub(section.address)?).ok()?;
+    let end = start.checked_add(usize::try_from(fde.address_range).ok()?)?;
+    if start >= section.contents.len() {
+        return None;
     }
-    None
+    section.contents.get(start..end)
 }
 
-/// Returns the code that a section has of an FDE.
-fn code_in<'a>(
+/// Returns the sections of code that a file has, in the order of their addresses.
+fn code_sections<'a>(
+    alloc: Global,
     file: &'a [u8],
-    section: SectionHeader,
-    fde: &FrameDescriptionEntry,
-) -> Option<&'a [u8]> {
-    let start = fde.initial_address.checked_sub(section.sh_addr)?;
-    if section.sh_flags & SHF_EXECINSTR == 0 || start >= section.sh_size {
-        return None;
+    sections: &[SectionHeader],
+) -> Result<Vec<CodeSection<'a>>, AllocError> {
+    let mut code = Vec::new(alloc);
+    for section in sections {
+        if section.sh_flags & SHF_EXECINSTR != 0
+            && let Ok(contents) = read_contents(file, *section)
+            && !contents.is_empty()
+        {
+            let address = section.sh_addr;
+            code.push(CodeSection { address, contents })?;
+        }
     }
-    let Ok(contents) = read_contents(file, section) else {
-        return None;
-    };
-    let start = usize::try_from(start).ok()?;
-    let end = start.checked_add(usize::try_from(fde.address_range).ok()?)?;
-    contents.get(start..end)
+    code.sort_by_key(|section| section.address)?;
+    Ok(code)
 }
 
 /// Appends the alarms of the function that was checked last.
@@ -354,7 +410,8 @@ fn push_alarms<C: Code>(
 /// Returns the name of the function at an address (SVMA), and where the function begins.
 fn name_of<'a>(parts: &Parts<'a>, address: u64) -> Option<(&'a str, u64)> {
     let symbol = parts.symbols.symbol_for(address)?;
-    match str::from_utf8(string_at(parts.strings, symbol.st_name)) {
+    let string = front(back(parts.strings, u64::from(symbol.st_name)), LONGEST_NAME);
+    match str::from_utf8(string_at(string, 0)) {
         Ok(name) => Some((name, symbol.st_value)),
         Err(_) => None,
     }

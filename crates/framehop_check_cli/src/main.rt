@@ -7,23 +7,23 @@ mod pe_file;
 mod text;
 
 use allowed::Allowed;
-use anyhow::Result;
 use clap::{Arg, ArgAction, Command};
-use file::{Checked, Options, check_file};
+use file::{Checked, Options, Refusal, check_file};
+use framehop_cli::file::read_regular;
+use framehop_cli::{Failure, Printed, Result, exit_code};
+use framehop_elf::error::ElfError;
+use framehop_pe_file::error::PeError;
 use pe_file::{check_pe_file, is_pe};
 use std::alloc::Global;
 use std::process::ExitCode;
-use std::{env, fs, io};
+use std::{env, io};
 
 /// What the program does.
 const ABOUT: &str =
     "Checks the unwind data of ELF and PE files against their code: where the rows of .eh_frame or .debug_frame, or the codes of prologs, and the instructions contradict each other.";
 
-/// The size of the largest file that is read, in bytes: 4 GiB.
-const LARGEST_FILE: u64 = 0x1_0000_0000;
-
-fn main(rt: HostRuntime) -> Result<ExitCode> {
-    Ok(ExitCode::from(run(&rt)?))
+fn main(rt: HostRuntime) -> ExitCode {
+    exit_code(&rt, "framehop-check", run(&rt))
 }
 
 /// Runs the program, and returns its status: 0, 1 where there are alarms, or a file or an entry of one
@@ -94,7 +94,7 @@ fn usage(rt: &HostRuntime, error: &clap::Error) -> Result<u8> {
 /// Reads the list of names, which is empty without a path.
 fn read_list(rt: &HostRuntime, path: Option<&str>) -> Result<Option<Vec<u8>>> {
     match path {
-        Some(path) => read_regular(rt, path),
+        Some(path) => read_or_tell(rt, path),
         None => Ok(Some(Vec::new(rt.alloc()))),
     }
 }
@@ -106,7 +106,7 @@ fn check_path(
     options: Options,
     allowed: &Allowed<'_>,
 ) -> Result<bool> {
-    let Some(bytes) = read_regular(rt, path)? else {
+    let Some(bytes) = read_or_tell(rt, path)? else {
         return Ok(false);
     };
     let checked = if is_pe(bytes.as_slice()) {
@@ -121,33 +121,29 @@ fn check_path(
             io::Write::flush(&mut out)?;
             Ok(is_good)
         }
+        Checked::Refused(Refusal::Elf(ElfError::OutOfMemory) | Refusal::Pe(PeError::OutOfMemory)) =>
+            { Err(Failure::OutOfMemory) }
         Checked::Refused(refusal) => {
-            eprintln!(rt; "framehop-check: {path}: {refusal}")?;
+            eprintln!(rt; "framehop-check: {}: {refusal}", Printed(path))?;
             Ok(false)
         }
     }
 }
 
 /// Reads a regular file of at most 4 GiB, or prints why it can't be read.
-fn read_regular(rt: &HostRuntime, path: &str) -> Result<Option<Vec<u8>>> {
-    match read_bytes(rt, path) {
-        Ok(Some(bytes)) => Ok(Some(bytes)),
+fn read_or_tell(rt: &HostRuntime, path: &str) -> Result<Option<Vec<u8>>> {
+    match read_regular(rt, path).map_err(Failure::from) {
         Ok(None) => {
-            eprintln!(rt; "framehop-check: {path}: no regular file of at most 4 GiB")?;
+            eprintln!(rt;
+                "framehop-check: {}: no regular file of at most 4 GiB",
+                Printed(path)
+            )?;
             Ok(None)
         }
-        Err(error) => {
-            eprintln!(rt; "framehop-check: {path}: {error}")?;
+        Err(Failure::Io(error)) => {
+            eprintln!(rt; "framehop-check: {}: {error}", Printed(path))?;
             Ok(None)
         }
+        read => read,
     }
-}
-
-/// Returns the bytes of a regular file, or `None` of any other or of a larger one.
-fn read_bytes(rt: &HostRuntime, path: &str) -> io::Result<Option<Vec<u8>>> {
-    let metadata = fs::metadata(rt, path)?;
-    if !metadata.is_file() || metadata.len() > LARGEST_FILE {
-        return Ok(None);
-    }
-    Ok(Some(fs::read(rt, path)?))
 }

@@ -1,7 +1,6 @@
 //! The check of a PE file: the unwind codes of each entry of its function table.
 use crate::file::{Checked, Options, Others, Refusal};
 use crate::text::{push_alarm, push_note, push_summary};
-use anyhow::Result;
 use framehop_check::prolog::check_prolog;
 use framehop_check::report::Report;
 use framehop_code::x86_64::CodeX86_64;
@@ -39,7 +38,12 @@ pub fn is_pe(file: &[u8]) -> bool {
 }
 
 /// Returns the lines for a PE file, and whether there are no alarms and each entry was read, or why it can't be checked.
-pub fn check_pe_file(alloc: Global, path: &str, file: &[u8], options: Options) -> Result<Checked> {
+pub fn check_pe_file(
+    alloc: Global,
+    path: &str,
+    file: &[u8],
+    options: Options,
+) -> Result<Checked, AllocError> {
     let image = match open(alloc, file) {
         Ok(image) => image,
         Err(error) => return Ok(Checked::Refused(Refusal::Pe(error))),
@@ -55,6 +59,7 @@ pub fn check_pe_file(alloc: Global, path: &str, file: &[u8], options: Options) -
         allowed: 0,
         unreadable: 0,
         without_code: 0,
+        sharing: 0,
     };
     let mut text = String::new(alloc);
     let mut rest = table;

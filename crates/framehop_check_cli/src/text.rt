@@ -2,6 +2,7 @@
 use crate::file::Others;
 use framehop_check::report::{Alarm, Counts};
 use framehop_check::tracked::Fault;
+use framehop_cli::Printed;
 use framehop_code::effect::{Base, Code};
 use std::alloc::AllocError;
 
@@ -89,7 +90,7 @@ fn push_place(
     match name {
         Some((name, begin)) => {
             let distance = address.wrapping_sub(begin);
-            write!(out, "{name}+0x{distance:x}: ")
+            write!(out, "{}+0x{distance:x}: ", Printed(name))
         }
         None => {
             let distance = address.wrapping_sub(start);
@@ -107,7 +108,8 @@ pub fn push_summary(
 ) -> Result<(), AllocError> {
     write!(
         out,
-        "{path}: {} functions, {} not wholly read, {} instructions, {} rows checked, {} believed, {} jumps checked, {} rows changed after calls, {} functions with alarms",
+        "{}: {} functions, {} not wholly read, {} instructions, {} rows checked, {} believed, {} jumps checked, {} rows changed after calls, {} functions with alarms",
+        Printed(path),
         counts.functions,
         counts.unread,
         counts.instructions,
@@ -120,6 +122,11 @@ pub fn push_summary(
     push_count(others.allowed, "of them allowed", out)?;
     push_count(others.unreadable, "entries unreadable", out)?;
     push_count(others.without_code, "functions without code", out)?;
+    push_count(
+        others.sharing,
+        "functions not checked, as they share code or a CIE with too many",
+        out,
+    )?;
     out.push_str("\n")
 }
 

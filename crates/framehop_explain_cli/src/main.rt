@@ -2,9 +2,10 @@
 //! ELF file or a PE file has to unwind by.
 #![tactic(auto)]
 
-use anyhow::Result;
 use clap::{Arg, ArgAction, Command};
 use either::{Either, Left, Right};
+use framehop_cli::file::read_regular;
+use framehop_cli::{Failure, Printed, Result, exit_code};
 use framehop_explain_program::{FileProblem, explain_file, explain_program};
 use framehop_walk::{Input, Output};
 use std::alloc::Global;
@@ -17,11 +18,8 @@ use std::{env, fs, io};
 const ABOUT: &str =
     "Carries out the commands of framehop-walk and prints its replies, with a note under each module and each frame: the kind of unwind data, and where the frame came from.";
 
-/// The size of the largest file that is read, in bytes: 4 GiB.
-const LARGEST_FILE: u64 = 0x1_0000_0000;
-
-fn main(rt: HostRuntime) -> Result<ExitCode> {
-    Ok(ExitCode::from(run(&rt)?))
+fn main(rt: HostRuntime) -> ExitCode {
+    exit_code(&rt, "framehop-explain", run(&rt))
 }
 
 /// Runs the program, and returns its status: 0, 1 where the input is refused, or 2.
@@ -82,16 +80,20 @@ fn print_file(rt: &HostRuntime, path: &str, texts: &[&str]) -> Result<u8> {
         eprintln!(rt; "framehop-explain: an address is no hexadecimal number of 64 bits")?;
         return Ok(2);
     };
-    let bytes = match read_regular(rt, path) {
+    let bytes = match read_regular(rt, path).map_err(Failure::from) {
         Ok(Some(bytes)) => bytes,
         Ok(None) => {
-            eprintln!(rt; "framehop-explain: {path}: no regular file of at most 4 GiB")?;
+            eprintln!(rt;
+                "framehop-explain: {}: no regular file of at most 4 GiB",
+                Printed(path)
+            )?;
             return Ok(1);
         }
-        Err(error) => {
-            eprintln!(rt; "framehop-explain: {path}: {error}")?;
+        Err(Failure::Io(error)) => {
+            eprintln!(rt; "framehop-explain: {}: {error}", Printed(path))?;
             return Ok(1);
         }
+        Err(failure) => return Err(failure),
     };
     match explain_file(rt.alloc(), bytes.as_slice(), addresses.as_slice()) {
         Ok(text) => {
@@ -100,13 +102,10 @@ fn print_file(rt: &HostRuntime, path: &str, texts: &[&str]) -> Result<u8> {
             io::Write::flush(&mut out)?;
             Ok(0)
         }
+        Err(FileProblem::OutOfMemory) => Err(Failure::OutOfMemory),
         Err(problem) => {
-            eprintln!(rt; "framehop-explain: {path}: {problem}")?;
-            Ok(if problem == FileProblem::OutOfMemory {
-                2
-            } else {
-                1
-            })
+            eprintln!(rt; "framehop-explain: {}: {problem}", Printed(path))?;
+            Ok(1)
         }
     }
 }
@@ -124,15 +123,6 @@ fn parse_addresses(alloc: Global, texts: &[&str]) -> Result<Option<Vec<u64>>> {
     Ok(Some(addresses))
 }
 
-/// Reads a regular file of at most 4 GiB.
-fn read_regular(rt: &HostRuntime, path: &str) -> io::Result<Option<Vec<u8>>> {
-    let metadata = fs::metadata(rt, path)?;
-    if !metadata.is_file() || metadata.len() > LARGEST_FILE {
-        return Ok(None);
-    }
-    Ok(Some(fs::read(rt, path)?))
-}
-
 /// Explains the commands of a file, or of standard input.
 fn explain(rt: &HostRuntime, path: Option<&str>) -> Result<u8> {
     let reader = match open_input(rt, path) {
@@ -140,7 +130,7 @@ fn explain(rt: &HostRuntime, path: Option<&str>) -> Result<u8> {
         Err(error) => {
             eprintln!(rt;
                 "framehop-explain: {}: {error}",
-                path.unwrap_or("standard input")
+                Printed(path.unwrap_or("standard input"))
             )?;
             return Ok(1);
         }

@@ -1,6 +1,6 @@
 //! The command line.
-use anyhow::Result;
 use clap::{Arg, ArgAction, ArgMatches, Command};
+use framehop_cli::Result;
 use framehop_flame_graph::drawing::{Drawing, Layout};
 use framehop_flame_graph::script::ZOOM_AND_SEARCH;
 use framehop_perf_stacks::kernel::KernelNames;

@@ -4,7 +4,7 @@ use crate::disk::Disk;
 use crate::input::Kind;
 use crate::messages::Messages;
 use crate::{Form, misuse_of, say_misuse, status_of};
-use anyhow::Result;
+use framehop_cli::Result;
 use framehop_dump_json::json::Json;
 use framehop_dump_stacks::core_dump::read_core_dump_over;
 use framehop_dump_stacks::dump::Dump;

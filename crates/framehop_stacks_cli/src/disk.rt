@@ -1,7 +1,7 @@
 //! The files of a disk: those that were mapped, and those of a folder.
 use crate::input::read_sized;
 use crate::messages::Messages;
-use anyhow::Result;
+use framehop_cli::Result;
 use framehop_perf_stacks::perf_map::MapSource;
 use framehop_symbols::files::{FileSource, is_vdso, is_windows_path};
 use framehop_symbols::made_up_id::is_made_up;

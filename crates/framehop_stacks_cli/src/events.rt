@@ -1,18 +1,19 @@
 //! The events of a recording that are asked for.
 use crate::messages::Messages;
-use anyhow::Result;
+use framehop_cli::Result;
 use framehop_frames::line::printed_name;
 use framehop_perf_stacks::event_choice::events_asked;
 use framehop_recording::event_names::read_event_names;
-use framehop_recording::header::read_header;
+use framehop_recording::header::Header;
 use std::io::Write;
 
-/// Returns the numbers of the events of a recording that are asked for by their names or numbers. Where it has none of
-/// them, says which it has, and returns `None`. Events of a recording that can't be read are not looked for.
+/// Returns the numbers of the events of a recording, whose header was read, that are asked for by their names or numbers. Where it
+/// has none of them, says which it has, and returns `None`. Without a header events are not looked for.
 pub fn numbers_of_events(
     rt: &HostRuntime,
     path: &str,
     bytes: &[u8],
+    header: Option<&Header>,
     asked: &[&str],
 ) -> Result<Option<Vec<usize>>> {
     let alloc = rt.alloc();
@@ -20,10 +21,10 @@ pub fn numbers_of_events(
     if asked.is_empty() {
         return Ok(Some(numbers));
     }
-    let Ok(header) = read_header(bytes) else {
+    let Some(header) = header else {
         return Ok(Some(numbers));
     };
-    let names = match read_event_names(alloc, bytes, &header) {
+    let names = match read_event_names(alloc, bytes, header) {
         Ok(names) => names,
         Err(_) => Vec::new(alloc),
     };

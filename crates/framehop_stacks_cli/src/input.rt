@@ -1,6 +1,6 @@
 //! The bytes of files and of standard input, and what they are.
 use crate::messages::Messages;
-use anyhow::Result;
+use framehop_cli::Result;
 use framehop_folded::text::is_text;
 use std::fs::File;
 use std::io::{ErrorKind, Read, Write};
@@ -100,7 +100,7 @@ fn read_standard_input(rt: &HostRuntime) -> io::Result<Vec<u8>> {
 }
 
 /// Says of a large recording that it is read, where someone sees it.
-fn announce(rt: &HostRuntime, path: &str, size: u64) -> Result<()> {
+pub fn announce(rt: &HostRuntime, path: &str, size: u64) -> Result<()> {
     if size > LARGE_RECORDING && is_terminal(rt) {
         let megabytes = size / 1_000_000;
         writeln!(

@@ -9,14 +9,16 @@ mod disk;
 mod events;
 mod input;
 mod messages;
+mod printed;
+mod recording_parts;
+mod recordings;
 mod speedscope;
 
-use anyhow::Result;
 use arguments::{Asked, command, drawing, options, samples_asked};
 use clap::ArgMatches;
 use cores::{print_core, print_core_parts};
 use disk::{Disk, Program, files_at, is_recording_by_threads};
-use events::numbers_of_events;
+use framehop_cli::{Result, exit_code};
 use framehop_dump_json::json::Json;
 use framehop_dump_stacks::error::DumpStacksError;
 use framehop_dump_stacks::program::write_minidump_stacks;
@@ -28,14 +30,14 @@ use framehop_folded::changes::Changes;
 use framehop_folded::error::{FoldedError, TextError};
 use framehop_folded::folded::Folded;
 use framehop_folded::text::{line_number, read_folded};
-use framehop_perf_stacks::choice::Choice;
 use framehop_perf_stacks::error::StacksError;
 use framehop_perf_stacks::kallsyms::read_kallsyms;
 use framehop_perf_stacks::kernel::KernelNames;
-use framehop_perf_stacks::program::write_stacks;
 use framehop_perf_stacks::run::Options;
 use input::{Kind, kind_of, name_of, read_input};
 use messages::Messages;
+use printed::printed_text;
+use recordings::{print_recording, print_recording_parts};
 use speedscope::speedscope_file;
 use std::io::{BufWriter, Write};
 use std::path::PathBuf;
@@ -57,8 +59,8 @@ enum Form<'a> {
     Json,
 }
 
-fn main(rt: HostRuntime) -> Result<ExitCode> {
-    Ok(ExitCode::from(run(&rt)?))
+fn main(rt: HostRuntime) -> ExitCode {
+    exit_code(&rt, "framehop-stacks", run(&rt))
 }
 
 /// Runs the program, and returns its status: 0, 1 where a recording can't be read, or 2.
@@ -323,6 +325,11 @@ fn print_stacks(
     {
         return Ok(status);
     }
+    if path != "-"
+        && let Some(status) = print_recording_parts(rt, path, disk, asked, options, form, folded)?
+    {
+        return Ok(status);
+    }
     let bytes = match read_input(rt, path)? {
         Ok(bytes) => bytes,
         Err(status) => return Ok(status),
@@ -422,7 +429,8 @@ fn add_folded(rt: &HostRuntime, path: &str, text: &[u8], folded: &mut Folded) ->
     };
     let mut added = Folded::new(rt.alloc());
     for line in lines {
-        if let Err(error) = added.add(line.stack, line.count) {
+        let stack = printed_text(rt.alloc(), line.stack.as_slice())?;
+        if let Err(error) = added.add(stack, line.count) {
             return refuse_count(rt, path, error);
         }
     }
@@ -460,54 +468,6 @@ fn refuse_line(rt: &HostRuntime, path: &str, text: &[u8], error: TextError) -> R
         "framehop-stacks: {path}: line {line} is no folded stack: {cause}"
     )?;
     Ok(1)
-}
-
-/// Prints a block for each sample of a recording, by its bytes, or adds its folded stacks to those so far.
-fn print_recording(
-    rt: &HostRuntime,
-    path: &str,
-    bytes: &[u8],
-    disk: &Disk<'_>,
-    asked: &Asked<'_>,
-    options: Options<'_>,
-    folded: &mut Folded,
-) -> Result<u8> {
-    let alloc = rt.alloc();
-    let mut out = BufWriter::new(alloc, io::writer(rt))?;
-    let mut err = Messages { rt };
-    let Some(events) = numbers_of_events(rt, path, bytes, asked.events.as_slice())? else {
-        return Ok(1);
-    };
-    let choice = Choice {
-        commands: asked.commands.as_slice(),
-        processes: asked.processes.as_slice(),
-        threads: asked.threads.as_slice(),
-        events: events.as_slice(),
-        window: asked.window,
-    };
-    let unwound = write_stacks(alloc, bytes, disk, &choice, options, &mut out, &mut err);
-    io::Write::flush(&mut out)?;
-    let ended = match unwound {
-        Ok(unwound) => {
-            folded.merge(unwound.folded)?;
-            unwound.ended
-        }
-        Err(error) => Err(error),
-    };
-    match ended {
-        Ok(None) => Ok(0),
-        Ok(Some(refusal)) => refuse(rt, path, StacksError::Recording(refusal)),
-        Err(error) => refuse(rt, path, error),
-    }
-}
-
-/// Prints why a recording gives no stacks, or no more of them.
-fn refuse(rt: &HostRuntime, path: &str, error: StacksError) -> Result<u8> {
-    writeln!(Messages { rt }, "framehop-stacks: {path}: {error}")?;
-    match error {
-        StacksError::OutOfMemory | StacksError::GenerationsExhausted => Ok(2),
-        _ => Ok(1),
-    }
 }
 
 /// Prints the folded stacks of all recordings, or draws them, and returns the status.

@@ -1,8 +1,10 @@
 //! What is said on standard error.
+use crate::printed::printed_text;
 use std::io;
 use std::io::Write;
 
-/// Standard error, where what can't be written is lost: the run goes on, and its output is whole.
+/// Standard error, where what can't be written is lost: the run goes on, and its output is whole. What is said has names of
+/// files, of which no byte is written that a terminal might take for a command.
 #[derive(Clone, Copy, Drop)]
 pub struct Messages<'a> {
     pub rt: &'a HostRuntime,
@@ -10,13 +12,21 @@ pub struct Messages<'a> {
 
 impl Write for Messages<'_> {
     fn write(&mut self, bytes: &[u8]) -> io::Result<usize> {
-        match self.rt.stderr().write(bytes) {
-            Ok(written) if written > 0 => Ok(written),
-            _ => Ok(bytes.len()),
+        if is_plain(bytes) {
+            let _written = self.rt.stderr().write_all(bytes);
+        } else if let Ok(text) = printed_text(self.rt.alloc(), bytes) {
+            let _written = self.rt.stderr().write_all(text.as_slice());
         }
+        Ok(bytes.len())
     }
 
     fn flush(&mut self) -> io::Result<()> {
         Ok(())
     }
+}
+
+/// Returns whether a text has only characters of ASCII that are printed, and line feeds. Such a text takes no memory.
+fn is_plain(text: &[u8]) -> bool {
+    text.iter()
+        .all(|byte| *byte == b'\n' || (*byte >= b' ' && *byte < 0x7f))
 }

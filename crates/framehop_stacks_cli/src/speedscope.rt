@@ -1,5 +1,5 @@
 //! Folded stacks as speedscope reads them.
-use anyhow::Result;
+use framehop_cli::Result;
 use framehop_folded::folded::Folded;
 use serde_json::{Number, Value, json};
 use std::alloc::Global;
