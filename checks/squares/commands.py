@@ -54,17 +54,30 @@ def entry(body):
     return struct.pack("<I", len(body)) + body
 
 
-def remembered_rows(count):
-    """A walk by a row that has so many rules and is remembered as often, before the rules are written once more."""
+def rule(register):
+    """`DW_CFA_offset_extended`."""
+    return b"\x05" + uleb128(register) + b"\x01"
+
+
+def walk_by_row(instructions):
+    """A walk by the row that these instructions make."""
     cie = entry(bytes(4) + bytes([1, 0, 1, 0x78, 16]))
-    rule = lambda register: b"\x05" + uleb128(register) + b"\x01"
-    rows = b"".join(map(rule, range(20, 20 + count))) + b"\x0a" * count + rule(20)
-    fde = entry(struct.pack("<IQQ", len(cie) + 4, 0x1000, 0x1000) + rows)
+    fde = entry(struct.pack("<IQQ", len(cie) + 4, 0x1000, 0x1000) + instructions)
     section = {"name": ".eh_frame", "svma": ["2000", f"{0x2000 + len(cie) + len(fde):x}"], "data": (cie + fde).hex()}
     module = add(0, 0) | {"start": "1000", "end": "2000", "base": "0", "sections": [section]}
     regs = {"ip": "1100", "sp": "10", "bp": "20"}
     step = {"do": "walk", "unwinder": 0, "cache": 0, "pc": "1100", "regs": regs, "memory": {"base": "0", "words": []}, "limit": 2}
     return [{"do": "new"}, module, step]
+
+
+def remembered_rows(count):
+    """A walk by a row that has so many rules and is remembered as often, before the rules are written once more."""
+    return walk_by_row(b"".join(map(rule, range(20, 20 + count))) + b"\x0a" * count + rule(20))
+
+
+def written_remembered_rows(count):
+    """The same, but each time it is remembered a rule is written; then all that was remembered is restored."""
+    return walk_by_row(b"".join(map(rule, range(20, 20 + count))) + (b"\x0a" + rule(20)) * count + b"\x0b" * count)
 
 
 KINDS = {
@@ -74,6 +87,7 @@ KINDS = {
     "clones-of-a-changed-one": clones_of_a_changed_one,
     "changed-clones": changed_clones,
     "remembered-rows": remembered_rows,
+    "written-remembered-rows": written_remembered_rows,
 }
 
 

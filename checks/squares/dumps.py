@@ -120,16 +120,38 @@ def mappings_of_one_file(count):
     return {"dump": core_of_code(files, [(starts[0], image(min(count, 0xFE00)))] + [(start, bytes(16)) for start in starts[1:]])}
 
 
+def image_with_frames(svma):
+    """The first bytes of a file, with a table of unwind data at 0x200 that tells where `.eh_frame` is, and a segment for it."""
+    table = bytes([1, 0x1B, 3, 0x3B]) + struct.pack("<iI", svma - 0x204, 0)
+    front = image(0)[:56] + struct.pack("<H", 2) + image(0)[58:] + struct.pack("<IIQQQQQQ", 0x6474E550, 4, 0x200, 0x200, 0, len(table), len(table), 4)
+    return front.ljust(0x200, b"\0") + table
+
+
 def shared_images(count):
     """Mapped files that are not given, each with a path and a segment of its own; all segments are the same bytes of the file, eight
     for each, with a table of unwind data from the first page on."""
-    table = bytes([1, 0x1B, 3, 0x3B]) + struct.pack("<iI", 8, 0)
-    front = image(0)[:56] + struct.pack("<H", 2) + image(0)[58:] + struct.pack("<IIQQQQQQ", 0x6474E550, 4, 0x200, 0x200, 0, len(table), len(table), 4)
-    shared = front.ljust(0x200, b"\0") + table
     size = PAGE * (1 + 8 * count // PAGE)
     starts = [0x10000000 + size * at for at in range(count)]
     files = [(start, start + size, b"/lib/%08d.so" % at) for at, start in enumerate(starts)]
-    return {"dump": core_of_code(files, [(start, shared.ljust(size, b"\0")) for start in starts])}
+    return {"dump": core_of_code(files, [(start, image_with_frames(0x20C).ljust(size, b"\0")) for start in starts])}
+
+
+def one_image(count):
+    """Mappings of one file that is not given, all in one segment of memory, which has a table of unwind data for each of their bases."""
+    size = PAGE * (1 + 300 * count // PAGE)
+    starts = [0x10000000 + 16 * at for at in range(count)]
+    files = [(start, start + 16, b"/lib/code.so") for start in starts]
+    front = image_with_frames(0x20C)
+    tables = front[0x200:].ljust(16, b"\0") * count
+    return {"dump": core_of_code(files, [(starts[0], (front[:0x200] + tables).ljust(size, b"\0"))])}
+
+
+def shared_code(count):
+    """A mapped file whose segments of code are all the same bytes of the file, eight for each."""
+    code = elf(3, [(PT_LOAD, 5, PAGE * at, bytes(8 * count)) for at in range(min(count, 0xFE00))])
+    files = [(0x10000000, 0x10001000, b"/lib/code.so")]
+    listed = [thread_note(1, STACKS), mapped(files)]
+    return {"dump": core(listed, [(STACKS, struct.pack("<QQ6Q", 0, 0x10000010, *range(6)))]), "root/lib/code.so": code}
 
 
 def section_names(count):
@@ -221,7 +243,7 @@ def write(folder, files):
 
 
 KINDS = {function.__name__.replace("_", "-"): function for function in (
-    threads, threads_backwards, masks, paths, code_in_memory, mappings_of_one_file, shared_images, section_names, notes_of_one_place,
+    threads, threads_backwards, masks, paths, code_in_memory, mappings_of_one_file, shared_images, one_image, shared_code, section_names, notes_of_one_place,
     minidump_threads, minidump_modules, minidump_maps, minidump_streams)}
 
 if __name__ == "__main__":

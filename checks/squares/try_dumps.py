@@ -6,15 +6,23 @@ as long (and above a second), where a run takes more than 60 seconds or memory o
 signal.
 """
 import os
-import resource
 import subprocess
 import sys
 import tempfile
 import time
+from pathlib import Path
 
-from dumps import KINDS, write
+from dumps import KINDS
 
 SIZES = (4000, 8000, 16000)
+GENERATOR = Path(__file__).with_name("dumps.py")
+
+
+def make(kind, size, folder):
+    """Makes the files of a kind by a process of its own: the memory of this one would count as that of what it starts. Returns
+    their size in bytes."""
+    subprocess.run([sys.executable, GENERATOR, kind, str(size), folder], check=True)
+    return sum(file.stat().st_size for file in Path(folder).rglob("*") if file.is_file())
 
 
 def run(command):
@@ -40,7 +48,7 @@ def main():
         before = None
         for size in SIZES:
             with tempfile.TemporaryDirectory() as folder:
-                total = write(folder, KINDS[kind](size))
+                total = make(kind, size, folder)
                 root = os.path.join(folder, "root")
                 command = [program, os.path.join(folder, "dump")] + (["--root", root] if os.path.isdir(root) else ["--root", folder])
                 status, seconds, megabytes = run(command)
