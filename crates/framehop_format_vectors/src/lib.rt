@@ -23,6 +23,8 @@ mod pe;
 #[cfg(test)]
 mod real_code;
 #[cfg(test)]
+mod remembered;
+#[cfg(test)]
 mod rows;
 #[cfg(test)]
 mod rules;
