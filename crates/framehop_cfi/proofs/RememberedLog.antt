@@ -1,11 +1,11 @@
 -- What a log of remembered rows undoes.
-use Rattle.std.proofs.Common.{◌≡◌, ◌≢◌, ℕ, zero, suc, ◌-◌, ◌<◌, Bool, true, false, List, [], ◌∷◌, ◌++◌, length, get_or, take, drop, Option, Some, None, Result, Ok, Err, refl, sym, ap, ◌∙◌, arith, inl, inr}
+use Rattle.std.proofs.Common.{◌≡◌, ◌≢◌, ℕ, zero, suc, ◌-◌, ◌<◌, Bool, List, [], ◌∷◌, ◌++◌, length, get_or, take, Option, Some, None, Result, Ok, Err, refl, ap, arith, inl, inr}
 use Rattle.std.specs.Prelude.{position, insert, remove, slice_set}
 use Rattle.std.proofs.lemmas.Bool.{cases_Bool}
 use Rattle.std.proofs.lemmas.List.{length-append, set-set, set-get_or}
 use Rattle.std.proofs.Math.Seq.{take-append_seam}
 use Rattle.framehop_cfi.specs.RememberedLog.{Rules, undone, rules_before, logged_rows, BeginsWithRow}
-use Rattle.framehop_cfi.specs.Row.{Row, is_of, is_full, set_at, with_rule, without_rule}
+use Rattle.framehop_cfi.specs.Row.{Row, is_of, is_full, with_rule, without_rule}
 use Rattle.framehop_cfi.specs.declared.read_error.ReadError.{ReadError}
 use Rattle.framehop_cfi.specs.declared.remembered_log.Note.{Note}
 use Rattle.framehop_cfi.specs.declared.remembered_log.Note.TheVariants.{Remembered, Changed}

@@ -1,7 +1,7 @@
 -- Copies of remembered rows, the latest of which shares the rules of the row that instructions work on, or has its own.
 use Rattle.std.proofs.Common.{◌≡◌, ℕ, zero, suc, ◌+◌, ◌-◌, ◌<◌, ◌≤◌, Bool, true, false, not, List, [], ◌∷◌, ◌++◌, length, get_or, take, map, Option, Some, None, refl, sym, ap, subst, arith}
 use Rattle.std.specs.Prelude.{unwrap_or, is_some, slice_set}
-use Rattle.std.proofs.lemmas.List.{length-append, map-append, map_more, take_more_set}
+use Rattle.std.proofs.lemmas.List.{map-append, map_more, take_more_set}
 use Rattle.framehop_cfi.specs.RememberedCopies.{CopiedView, popped_row, first_rules, copied_rows, copied_view, is_shared, kept}
 use Rattle.framehop_cfi.specs.Row.{Row}
 use Rattle.framehop_cfi.specs.declared.rule.CfaRule.{CfaRule}

@@ -1,6 +1,6 @@
 -- The instructions that write rules, remember a row and restore one, over remembered rows that are a log or copies.
-use Rattle.std.proofs.Common.{◌≡◌, ◌≢◌, ℕ, ◌-◌, ◌<◌, Bool, true, false, List, [], ◌∷◌, ◌++◌, length, take, Option, Some, None, Result, Ok, Err, OnOk, IfErr, refl, sym, ap, arith, if◌then◌else◌}
-use Rattle.std.specs.Prelude.{unwrap_or, slice_get}
+use Rattle.std.proofs.Common.{◌≡◌, ◌≢◌, ◌-◌, Bool, true, false, List, [], ◌∷◌, ◌++◌, length, take, Option, Some, None, Result, Ok, Err, OnOk, IfErr, refl, sym, ap, arith, if◌then◌else◌}
+use Rattle.std.specs.Prelude.{slice_get}
 use Rattle.std.proofs.lemmas.List.{length-append}
 use Rattle.std.proofs.lemmas.Option.{slice_get_read}
 use Rattle.std.proofs.Math.Seq.{get_or-append_seam, take-append_seam}

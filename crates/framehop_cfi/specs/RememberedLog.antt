@@ -5,7 +5,6 @@ use Rattle.framehop_cfi.specs.declared.remembered_log.Note.{Note}
 use Rattle.framehop_cfi.specs.declared.remembered_log.Note.TheVariants.{Remembered, Changed}
 use Rattle.framehop_cfi.specs.declared.row.RuleChange.{RuleChange}
 use Rattle.framehop_cfi.specs.declared.row.RuleChange.TheVariants.{Set, Added, Removed}
-use Rattle.framehop_cfi.specs.declared.rule.CfaRule.{CfaRule}
 use Rattle.framehop_cfi.specs.declared.rule.Register.{Register}
 use Rattle.framehop_cfi.specs.declared.rule.RegisterRule.{RegisterRule}
 

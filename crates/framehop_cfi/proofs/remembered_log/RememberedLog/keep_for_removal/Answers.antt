@@ -1,4 +1,4 @@
-use Rattle.std.proofs.Common.{◌≡◌, sym, ◌∙◌, ap, refl}
+use Rattle.std.proofs.Common.{sym, ◌∙◌, ap, refl}
 use Rattle.framehop_cfi.specs.RememberedLog.{logged_rows}
 use Rattle.framehop_cfi.proofs.RememberedLog.{logged_rows-changed, removal-undone, without-none}
 use Rattle.framehop_cfi.proofs.remembered_log.RememberedLog.keep_for_removal.Goals as goal
