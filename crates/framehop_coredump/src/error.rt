@@ -43,6 +43,10 @@ pub enum CoreFileError {
     /// The note at the offset is of OpenBSD.
     #[error("a core file of OpenBSD: the note at offset {offset}; only those of Linux are read")]
     OfOpenBsd { offset: u64 },
+    /// The first bytes of the mapped files tell of more program headers and notes, together, than the core file has bytes:
+    /// files share some.
+    #[error("mapped files whose first bytes share program headers or notes")]
+    SharedHeaders,
     /// The core file has no note of a thread.
     #[error("a core file without threads")]
     NoThreads,

@@ -6,6 +6,7 @@ mod ProblemLemmas
 mod EndLemmas
 mod SegmentLemmas
 mod HeadLemmas
+mod FirstMappingLemmas
 mod OrderLemmas
 mod WithinLemmas
 mod ThreadNameLemmas

@@ -24,6 +24,7 @@ use Rattle.framehop_memory.specs.Segment.{base_of}
 use Rattle.framehop_memory.specs.declared.segment.Segment.{Segment}
 use Rattle.framehop_dump_stacks.specs.Dump.{ThreadView, MappedCodeView, DumpView, of_kernel, crashed_first}
 use Rattle.framehop_dump_stacks.specs.Image.{head_at, segments_in, build_id_in}
+use Rattle.framehop_dump_stacks.specs.SharedHeaders.{with_own_headers}
 use Rattle.framehop_dump_stacks.specs.declared.dump.Cause.{Cause}
 use Rattle.framehop_dump_stacks.specs.declared.dump.Cause.TheVariants.{Signal}
 use Rattle.framehop_dump_stacks.specs.declared.dump.Kind.TheVariants.{CoreFile}
@@ -170,13 +171,14 @@ dump_by_notes file core dumped memory = do
   threads ← noted_threads_of core.0 notes
   files ← mapped_files_of notes
   process ← process_of notes
+  own ← with_own_headers memory files
   Ok (record {
     kind = CoreFile;
     memory = memory;
     segments = dumped;
     machine = core.0;
     threads = crashed_first (threads_by false threads);
-    code = code_of memory dumped files ++ vdso_code memory dumped (vdso_of notes);
+    code = code_of memory dumped own ++ vdso_code memory dumped (vdso_of notes);
     name = name_of process;
     pid = pid_of process;
     wow64 = false;

@@ -43,6 +43,10 @@ build_id_in head segments = unwrap_or (build_id_of_file head segments []) []
 abbrev pub is_eh_frame_header : ProgramHeader → Bool
 is_eh_frame_header segment = segment.p_type == PT_GNU_EH_FRAME
 
+-- the first such one
+abbrev pub eh_frame_header : List ProgramHeader → Option ProgramHeader
+eh_frame_header segments = find is_eh_frame_header segments
+
 -- where a stated address is of what lies at a base
 abbrev pub avma_at : ℕ → ℕ → Option ℕ
 avma_at base svma = if nat_lt (base + svma) (2 ^ 64) then Some (base + svma) else None
@@ -93,9 +97,6 @@ frames_behind memory base (Some segment) =
     frames_after memory base segment.p_vaddr (memory_at memory base segment.p_vaddr segment.p_memsz)
 frames_behind memory base None = None
 
-unfoldable pub call_frames_at : MemoryView → List ProgramHeader → ℕ → Option CallFramesView
-call_frames_at memory segments base = frames_behind memory base (find is_eh_frame_header segments)
-
 -- where bytes are from a stated address on; what ends above the last address ends at it
 abbrev pub range_of : ℕ → List ℕ → Range ℕ
 range_of svma bytes = record { start = svma; end = min (svma + length bytes) (2 ^ 64 - 1) }
@@ -121,4 +122,4 @@ sections_of found = record {
 
 -- the unwind sections of a file of these first bytes that lies at a base, as memory has them
 abbrev pub sections_in : MemoryView → List ℕ → ℕ → ExplicitModuleSectionInfo (List ℕ)
-sections_in memory head base = sections_of (call_frames_at memory (segments_in head) base)
+sections_in memory head base = sections_of (frames_behind memory base (eh_frame_header (segments_in head)))

@@ -4,6 +4,7 @@
 pub mod Refusal
 pub mod Dump
 pub mod Image
+pub mod SharedHeaders
 pub mod Added
 pub mod CoreDump
 pub mod Heads

@@ -2,7 +2,7 @@
 -- The code of a file: gABI, chapter 5, "Program Header".
 use Rattle.std.specs.Prelude.{ℕ, ◌+◌, ◌-◌, ◌^◌, nat_le, nat_lt, max, min, List, [], ◌∷◌, ◌++◌, codes, length, map, Bool, true, false, ◌&&◌, ◌||◌, ◌==◌, if◌then◌else◌, Option, Some, None, Result, Ok, Err}
 use Rattle.std.specs.Int.Count.{count_leading_zeros}
-use Rattle.std.specs.List.{after_last, flat_map, fold, list_any}
+use Rattle.std.specs.List.{after_last, flat_map, fold, list_any, sum_by}
 use Rattle.std.specs.Str.{str_eq_ignore_ascii_case}
 use Rattle.framehop_bytes.specs.Bytes.{◌>>=◌}
 use Rattle.framehop_coredump.specs.declared.core_file.Machine.{Machine}
@@ -22,7 +22,7 @@ use Rattle.framehop_minidump.specs.SystemInfo.{system_info_of}
 use Rattle.framehop_minidump.specs.Thread.{threads_of}
 use Rattle.framehop_minidump.specs.ThreadName.{thread_names_of}
 use Rattle.framehop_minidump.specs.declared.error.MinidumpError.{MinidumpError}
-use Rattle.framehop_minidump.specs.declared.error.MinidumpError.TheVariants.{NoThreads, SharedNames}
+use Rattle.framehop_minidump.specs.declared.error.MinidumpError.TheVariants.{NoThreads, SharedHeaders, SharedNames}
 use Rattle.framehop_minidump.specs.declared.exception.Exception.{Exception}
 use Rattle.framehop_memory.specs.Memory.{MemoryView}
 use Rattle.framehop_memory.specs.Segment.{base_of, base_from}
@@ -40,6 +40,7 @@ use Rattle.framehop_symbols.specs.declared.object_file.ObjectFile.{ObjectFile}
 use Rattle.framehop_dump_stacks.specs.Added.{AreFiles, object_called}
 use Rattle.framehop_dump_stacks.specs.Dump.{ThreadView, MappedCodeView, DumpView, of_context, crashed_first}
 use Rattle.framehop_dump_stacks.specs.Image.{head_at, segments_in}
+use Rattle.framehop_dump_stacks.specs.SharedHeaders.{headers_size}
 use Rattle.framehop_dump_stacks.specs.ThreadNames.{NamedView, named_view, name_among}
 use Rattle.framehop_dump_stacks.specs.declared.dump.Access.{Access}
 use Rattle.framehop_dump_stacks.specs.declared.dump.Cause.{Cause as WhyEnded}
@@ -254,6 +255,15 @@ dumped_threads_of file parts platform = do
   threads ← each (thread_in file platform (mask_up_to (last_address parts.modules)) exception parts.names) listed
   Ok (crashed_first threads)
 
+-- how many bytes the program headers and the notes have that the first bytes of a module tell of, as memory has them
+abbrev pub module_size : MemoryView → LoadedView → ℕ
+module_size memory m = headers_size (head_at memory m.base)
+
+-- modules that together have no more of them than memory has bytes
+abbrev pub with_own_modules : MemoryView → List LoadedView → Result (List LoadedView) MinidumpError
+with_own_modules memory modules =
+    if nat_lt (length memory.file) (sum_by (module_size memory) modules) then Err SharedHeaders else Ok modules
+
 -- what else a minidump says, but for where its code was mapped
 unfoldable pub dump_in : List ℕ → PartsView → Result DumpView MinidumpError
 dump_in file parts = do
@@ -262,6 +272,7 @@ dump_in file parts = do
   ranges ← ranges_of file parts.streams
   regions ← all_regions_of file parts.streams
   pid ← process_id_of file parts.streams
+  own ← with_own_modules (record { file = file; ranges = ranges }) parts.modules
   Ok (record {
     kind = kind.Minidump;
     memory = record { file = file; ranges = ranges };
@@ -269,9 +280,9 @@ dump_in file parts = do
     machine = machine_of system.machine;
     threads = threads;
     code = [];
-    name = program_name system.platform parts.modules;
+    name = program_name system.platform own;
     pid = pid;
-    wow64 = has_wow64 system.platform parts.modules;
+    wow64 = has_wow64 system.platform own;
   })
 
 -- those parts of a minidump

@@ -1,6 +1,8 @@
 -- What is said of files: of which nothing was read, and of which something was not.
 use Rattle.std.specs.Prelude.{◌≡◌, ℕ, ◌+◌, ◌-◌, ◌^◌, nat_eq, nat_lt, max, min, ◌&&◌, Bool, true, false, if◌then◌else◌, List, [], ◌∷◌, ◌++◌, length, codes, find, fold, is_some, Option, Some, None}
+use Rattle.std.specs.BTreeMap.{BTreeMap, get}
 use Rattle.std.specs.Fmt.{decimal}
+use Rattle.std.specs.Ordering.{nat_cmp}
 use Rattle.framehop_memory.specs.declared.memory.MemoryRange.{MemoryRange}
 use Rattle.framehop_processes.specs.declared.mapping.Mapping.{Mapping}
 use Rattle.framehop_symbols.specs.Files.{number_in}
@@ -88,6 +90,10 @@ IsProblemText kind (Pe error) text = IsReason text
 abbrev pub is_of_file : Option ℕ → Mapping → Bool
 is_of_file (Some number) mapping = nat_eq mapping.file number && mapping.has_sections
 is_of_file None mapping = false
+
+-- for each number the first such mapping
+abbrev pub HasFirstMappings : List Mapping → BTreeMap ℕ Mapping → Type 0
+HasFirstMappings mappings by_file = (number : ℕ) → get nat_cmp by_file number ≡ find (is_of_file (Some number)) mappings
 
 -- memory has the unwind data of a file where it is mapped first
 abbrev pub has_frames : DumpView → List ℕ → Option Mapping → Bool

@@ -15,6 +15,7 @@ use crate::dumped_segments::DumpedSegments;
 use crate::heads::{FileHead, HeadsByPath};
 use crate::image::{head_at, segments_in};
 use crate::order::crashed_first;
+use crate::shared_headers::check_mapped_files;
 use framehop_coredump::auxiliary_vector::vdso_of;
 use framehop_coredump::core_file::{CoreFile, Machine, read_core_file};
 use framehop_coredump::error::CoreFileError;
@@ -35,7 +36,7 @@ use std::alloc::{AllocError, Global};
 ///
 /// # Errors
 ///
-/// The first refusal of the headers, of the notes, of the threads, of the mapped files and of the process;
+/// The first refusal of the headers, of the notes, of the threads, of the mapped files and of the process; `SharedHeaders`;
 /// `OutOfMemory`.
 #[tactic(auto, unfolding(crate::specs::CoreDump::core_dump_of))]
 pub fn read_core_dump<'a>(alloc: Global, file: &'a [u8]) -> Result<Dump<'a>, CoreFileError>
@@ -94,6 +95,7 @@ fn dump_by_notes<'a>(
     let noted = noted_threads(alloc, core.machine, notes.as_slice())?;
     let files = read_mapped_files(alloc, notes.as_slice())?;
     let process = read_process(notes.as_slice())?;
+    check_mapped_files(alloc, &memory, files.as_slice())?;
     let Ok(threads) = ordered_threads(alloc, noted.as_slice()) else {
         return Err(CoreFileError::OutOfMemory);
     };

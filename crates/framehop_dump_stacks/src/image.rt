@@ -1,8 +1,8 @@
 //! What the memory of a process has of the files that it had mapped: their build ids and their unwind data.
-ghost use Rattle.std.specs.Prelude.{◌≡◌, IfOk, find, option_map};
+ghost use Rattle.std.specs.Prelude.{◌≡◌, IfOk, option_map};
 ghost use Rattle.framehop_memory.specs.Memory.{memory_view};
 ghost use Rattle.framehop_symbols.specs.MappedBytes.{mapped_sections_view};
-ghost use Rattle.framehop_dump_stacks.specs.Image.{head_at, segments_in, build_id_in, is_eh_frame_header, memory_at, memory_after, call_frames_at, call_frames_view, range_of, sections_of, sections_in};
+ghost use Rattle.framehop_dump_stacks.specs.Image.{head_at, segments_in, build_id_in, eh_frame_header, memory_at, memory_after, frames_behind, call_frames_view, range_of, sections_of};
 
 use framehop_bytes::section::ExplicitModuleSectionInfo;
 use framehop_cfi::header::TableLayout;
@@ -39,18 +39,16 @@ pub fn build_id_in<'a>(head: &'a [u8], segments: &[ProgramHeader]) -> &'a [u8]
     }
 }
 
-/// Returns the unwind sections of a file of these first bytes that lies at a base, as memory has them, which lends their
-/// bytes: none where it has not both `.eh_frame_hdr` and `.eh_frame`.
-pub fn sections_in<'m>(
-    alloc: Global,
+/// Returns the unwind sections of a file that lies at a base and has its `.eh_frame_hdr` in a segment, as memory has them,
+/// which lends their bytes: none where it has not both `.eh_frame_hdr` and `.eh_frame`.
+pub fn sections_behind<'m>(
     memory: &ProcessMemory<'m>,
-    head: &[u8],
+    header: Option<ProgramHeader>,
     base: u64,
-) -> Result<ExplicitModuleSectionInfo<MappedBytes<'m>>, AllocError>
-    ensures { IfOk result (λ info. mapped_sections_view info ≡ sections_in (memory_view memory.now) head.now base) }
+) -> ExplicitModuleSectionInfo<MappedBytes<'m>>
+    ensures { mapped_sections_view result ≡ sections_of (frames_behind (memory_view memory.now) base header) }
 {
-    let segments = segments_in(alloc, head)?;
-    Ok(sections_of(call_frames_at(memory, segments.as_slice(), base)))
+    sections_of(frames_behind(memory, header, base))
 }
 
 /// Returns the program headers in the first bytes of a file: none where they can't be read.
@@ -77,19 +75,18 @@ struct CallFrames<'a> {
     frames: &'a [u8],
 }
 
-/// Returns the call frame sections of a file that lies at a base, if memory has them: `.eh_frame_hdr`, and
+/// Returns the call frame sections of a file that lies at a base, if memory has them: `.eh_frame_hdr` by its segment, and
 /// what is at the address that it tells.
 ///
 /// Source: LSB Core, "Exception Frames", "The .eh_frame_hdr section".
-#[tactic(auto, unfolding(crate::specs::Image::call_frames_at))]
-fn call_frames_at<'a>(
+fn frames_behind<'a>(
     memory: &ProcessMemory<'a>,
-    segments: &[ProgramHeader],
+    header: Option<ProgramHeader>,
     base: u64,
 ) -> Option<CallFrames<'a>>
-    ensures { option_map call_frames_view result ≡ call_frames_at (memory_view memory.now) segments.now base }
+    ensures { option_map call_frames_view result ≡ frames_behind (memory_view memory.now) base header }
 {
-    let segment = eh_frame_header(segments)?;
+    let segment = header?;
     let header_svma = segment.p_vaddr;
     let header = memory_at(memory, base, header_svma, segment.p_memsz)?;
     let bases = SectionBaseAddresses {
@@ -109,8 +106,8 @@ fn call_frames_at<'a>(
 }
 
 /// Returns the segment that has `.eh_frame_hdr`.
-fn eh_frame_header(segments: &[ProgramHeader]) -> Option<ProgramHeader>
-    ensures { result ≡ find is_eh_frame_header segments.now }
+pub(crate) fn eh_frame_header(segments: &[ProgramHeader]) -> Option<ProgramHeader>
+    ensures { result ≡ eh_frame_header segments.now }
 {
     for segment in segments {
         if segment.p_type == PT_GNU_EH_FRAME {

@@ -20,6 +20,7 @@ use crate::dump::{Dump, Kind, MappedCode, Registers, Thread};
 use crate::image::{head_at, segments_in};
 use crate::minidump_cause::cause_of;
 use crate::order::crashed_first;
+use crate::shared_headers::check_modules;
 use crate::thread_names::{NamedThread, ThreadNames};
 use framehop_coredump::core_file::Machine;
 use framehop_elf::segment::loaded_segments;
@@ -245,7 +246,8 @@ fn build_id_by<'a>(name: &[u8], codeview: Option<CodeView<'a>>) -> &'a [u8]
 /// # Errors
 ///
 /// The first refusal of the system information, of the exception, of the threads and their contexts, `NoThreads` where none
-/// is listed, that of the list of memory, of that of its regions, and of the number of the process; `OutOfMemory`.
+/// is listed, that of the list of memory, of that of its regions, and of the number of the process; `SharedHeaders`;
+/// `OutOfMemory`.
 #[tactic(auto, unfolding(crate::specs::Minidump::dump_in))]
 pub fn dump_in<'a>(
     alloc: Global,
@@ -266,6 +268,7 @@ pub fn dump_in<'a>(
     let regions = all_regions(alloc, file, streams)?;
     let segments = CodeSegments::new(alloc, regions)?;
     let pid = read_process_id(file, streams)?;
+    check_modules(alloc, &memory, modules)?;
     Ok(Dump {
         kind: Kind::Minidump,
         memory,

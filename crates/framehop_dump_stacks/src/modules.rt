@@ -4,6 +4,7 @@ ghost use Rattle.framehop_processes.specs.Process.{HasModules};
 ghost use Rattle.framehop_symbols.specs.Files.{placed_at};
 ghost use Rattle.framehop_symbols.specs.MappedBytes.{mapped_sections_view};
 ghost use Rattle.framehop_dump_stacks.specs.Dump.{mapped_code_view, dump_view, head_of};
+ghost use Rattle.framehop_dump_stacks.specs.Image.{sections_in};
 ghost use Rattle.framehop_dump_stacks.specs.Heads.{HasHeadsOf};
 ghost use Rattle.framehop_dump_stacks.specs.Ended.{drawn_in, MayEnd};
 ghost use Rattle.framehop_dump_stacks.specs.Modules.{AreFilesOf, base_in, mapping_based, mapping_in, mappings_in, module_with, sections_by, module_at};
@@ -11,7 +12,7 @@ ghost use Rattle.framehop_dump_stacks.specs.Modules.{AreFilesOf, base_in, mappin
 use crate::dump::{Dump, MappedCode};
 use crate::error::DumpStacksError;
 use crate::heads::HeadsByPath;
-use crate::image::sections_in;
+use crate::image::sections_behind;
 use framehop::Module;
 use framehop::generations::Generations;
 use framehop::section::ExplicitModuleSectionInfo;
@@ -41,33 +42,33 @@ pub fn read_files<'m, S: FileSource>(
 pub struct DumpModules<'a, 'm> {
     pub dump: &'a Dump<'m>,
     pub files: &'a Files<'m>,
-    /// The first bytes of the files whose code the dump has.
+    /// What memory has of the files whose code the dump has.
     pub heads: HeadsByPath<'m>,
     ghost known: { HasHeadsOf (dump_view dump.now).code heads.by_path },
 }
 
 impl<'m> DumpModules<'_, 'm> {
-    /// Returns the first bytes of a file whose code was mapped, as far as memory has them.
-    pub fn head_of(&self, path: &[u8]) -> &'m [u8]
-        ensures { result.now ≡ head_of (dump_view self.now.dump.now) path.now }
+    /// Returns the unwind sections of a file whose code was mapped and that lies at a base, as memory has them.
+    pub(crate) fn sections_in(
+        &self,
+        path: &[u8],
+        base: u64,
+    ) -> ExplicitModuleSectionInfo<MappedBytes<'m>>
+        ensures { mapped_sections_view result
+            ≡ sections_in (dump_view self.now.dump.now).memory (head_of (dump_view self.now.dump.now) path.now) base }
     {
-        self.heads.head_at(path)
+        let file = self.heads.file_at(path);
+        sections_behind(&self.dump.memory, file.eh_frame_header, base)
     }
 
     /// Returns the unwind sections of a mapping's file, as memory has them.
-    fn sections(
-        &self,
-        alloc: Global,
-        mapping: &Mapping,
-    ) -> Result<ExplicitModuleSectionInfo<MappedBytes<'m>>, AllocError>
-        ensures { IfOk result (λ info. mapped_sections_view info ≡ sections_by (dump_view self.now.dump.now) (slice_get self.now.files.now.list.items mapping.now.file) mapping.now.base_avma) }
+    fn sections(&self, mapping: &Mapping) -> ExplicitModuleSectionInfo<MappedBytes<'m>>
+        ensures { mapped_sections_view result ≡ sections_by (dump_view self.now.dump.now)
+            (slice_get self.now.files.now.list.items mapping.now.file) mapping.now.base_avma }
     {
         match self.files.get(mapping.file) {
-            Some(file) => {
-                let head = self.head_of(file.name.as_slice());
-                sections_in(alloc, &self.dump.memory, head, mapping.base_avma)
-            }
-            None => Ok(ExplicitModuleSectionInfo::default()),
+            Some(file) => self.sections_in(file.name.as_slice(), mapping.base_avma),
+            None => ExplicitModuleSectionInfo::default(),
         }
     }
 
@@ -80,7 +81,7 @@ impl<'m> DumpModules<'_, 'm> {
         ensures { IfOk result (λ made. made ≡ placed_at (module_with (sections_by (dump_view self.now.dump.now)
             (slice_get self.now.files.now.list.items mapping.now.file) mapping.now.base_avma)) mapping.now) }
     {
-        let info = self.sections(alloc, mapping)?;
+        let info = self.sections(mapping);
         placed_at(&module_with(alloc, info)?, mapping)
     }
 

@@ -1,13 +1,13 @@
 //! What is said of files: of which nothing was read, and of which something was not.
-ghost use Rattle.std.specs.Prelude.{◌≡◌, Some, None, find, string_bytes, IfOk};
+ghost use Rattle.std.specs.Prelude.{◌≡◌, Some, None, string_bytes, IfOk};
 ghost use Rattle.framehop_symbols.specs.Files.{number_in};
 ghost use Rattle.framehop_symbols.specs.Found.{has_names, is_unwind_data};
 ghost use Rattle.framehop_dump_stacks.specs.Dump.{dump_view};
-ghost use Rattle.framehop_dump_stacks.specs.Problems.{kind_name, range_end, needed_size, sizes_text, cut_text, wow64_text, file_text, lack_text, lack_line, compressed_text, object_lines, IsReason, IsProblemText, is_of_file, has_frames, is_in_memory, in_memory_text, IsLineOf, AreProblems, IsSaid};
+ghost use Rattle.framehop_dump_stacks.specs.Problems.{kind_name, range_end, needed_size, sizes_text, cut_text, wow64_text, file_text, lack_text, lack_line, compressed_text, object_lines, IsReason, IsProblemText, has_frames, is_in_memory, in_memory_text, IsLineOf, AreProblems, IsSaid};
 
 use crate::dump::{Dump, Kind};
+use crate::first_mappings::FirstMappings;
 use crate::heads::heads_of;
-use crate::image::sections_in;
 use crate::modules::DumpModules;
 use framehop_frames::line::push_name;
 use framehop_memory::memory::MemoryRange;
@@ -110,9 +110,10 @@ fn problems_text<'m>(
 {
     let heads = heads_of(alloc, dump)?;
     let modules = DumpModules { dump, files, heads };
+    let first = FirstMappings::new(alloc, mappings)?;
     let mut text = Vec::new(alloc);
     for file in files.list() {
-        let line = problem_line(alloc, &modules, mappings, file)?;
+        let line = problem_line(alloc, &modules, &first, file)?;
         text.extend_from_slice(line.as_slice())?;
     }
     Ok(text)
@@ -122,13 +123,13 @@ fn problems_text<'m>(
 fn problem_line(
     alloc: Global,
     modules: &DumpModules<'_, '_>,
-    mappings: &[Mapping],
+    first: &FirstMappings<'_>,
     file: &NamedFile<'_>,
 ) -> Result<Vec<u8>, AllocError>
-    ensures { IfOk result (λ line. IsLineOf (dump_view modules.now.dump.now) modules.now.files.now mappings.now file.now.name.items file.now.object file.now.problem line.items) }
+    ensures { IfOk result (λ line. IsLineOf (dump_view modules.now.dump.now) modules.now.files.now first.now.mappings.now file.now.name.items file.now.object file.now.problem line.items) }
 {
     match (file.problem, &file.object) {
-        (Some(problem), _) => unread_line(alloc, modules, mappings, file.name.as_slice(), problem),
+        (Some(problem), _) => unread_line(alloc, modules, first, file.name.as_slice(), problem),
         (None, Some(object)) => object_lines(alloc, file.name.as_slice(), object),
         (None, None) => Ok(Vec::new(alloc)),
     }
@@ -194,17 +195,17 @@ fn lack_text(unwind_data: bool, names: bool) -> &'static str
 fn unread_line(
     alloc: Global,
     modules: &DumpModules<'_, '_>,
-    mappings: &[Mapping],
+    first: &FirstMappings<'_>,
     name: &[u8],
     problem: FileProblem,
 ) -> Result<Vec<u8>, AllocError>
-    ensures { IfOk result (λ line. IsLineOf (dump_view modules.now.dump.now) modules.now.files.now mappings.now name.now None (Some problem) line.items) }
+    ensures { IfOk result (λ line. IsLineOf (dump_view modules.now.dump.now) modules.now.files.now first.now.mappings.now name.now None (Some problem) line.items) }
 {
     let mut line = Vec::new(alloc);
     push_name(&mut line, name)?;
     let why = problem_text(alloc, modules.dump.kind, problem)?;
     line.extend_from_slice(why.as_bytes())?;
-    let in_memory = is_in_memory(alloc, modules, mappings, name)?;
+    let in_memory = is_in_memory(modules, first, name);
     let note = in_memory_text(alloc, modules.dump.kind, in_memory)?;
     line.extend_from_slice(note.as_bytes())?;
     line.push(b'\n')?;
@@ -236,63 +237,22 @@ fn reason_text(alloc: Global, reason: String) -> Result<String, AllocError>
 }
 
 /// Returns whether memory has the unwind data of a file.
-fn is_in_memory(
-    alloc: Global,
-    modules: &DumpModules<'_, '_>,
-    mappings: &[Mapping],
-    name: &[u8],
-) -> Result<bool, AllocError>
-    ensures { IfOk result (λ has. has ≡ is_in_memory (dump_view modules.now.dump.now) modules.now.files.now mappings.now name.now) }
+fn is_in_memory(modules: &DumpModules<'_, '_>, first: &FirstMappings<'_>, name: &[u8]) -> bool
+    ensures { result ≡ is_in_memory (dump_view modules.now.dump.now) modules.now.files.now first.now.mappings.now name.now }
 {
-    has_frames(
-        alloc,
-        modules,
-        name,
-        first_mapping(mappings, modules.files.number_of(name)),
-    )
-}
-
-/// Returns the first mapping of a file that has its unwind data.
-fn first_mapping(mappings: &[Mapping], number: Option<u32>) -> Option<Mapping>
-    ensures { result ≡ find (is_of_file number) mappings.now }
-{
-    for mapping in mappings {
-        if is_of_file(number, *mapping) {
-            return Some(*mapping);
-        }
-    }
-    None
-}
-
-/// Returns whether a mapping is of a file and has its unwind data.
-fn is_of_file(number: Option<u32>, mapping: Mapping) -> bool
-    ensures { result ≡ is_of_file number mapping }
-{
-    match number {
-        Some(number) => mapping.file == number && mapping.has_sections,
-        None => false,
-    }
+    let number = modules.files.number_of(name);
+    has_frames(modules, name, first.of_file(number))
 }
 
 /// Returns whether memory has the unwind data of a file where it is mapped.
-fn has_frames(
-    alloc: Global,
-    modules: &DumpModules<'_, '_>,
-    name: &[u8],
-    mapping: Option<Mapping>,
-) -> Result<bool, AllocError>
-    ensures { IfOk result (λ has. has ≡ has_frames (dump_view modules.now.dump.now) name.now mapping) }
+fn has_frames(modules: &DumpModules<'_, '_>, name: &[u8], mapping: Option<Mapping>) -> bool
+    ensures { result ≡ has_frames (dump_view modules.now.dump.now) name.now mapping }
 {
     let Some(mapping) = mapping else {
-        return Ok(false);
+        return false;
     };
-    let info = sections_in(
-        alloc,
-        &modules.dump.memory,
-        modules.head_of(name),
-        mapping.base_avma,
-    )?;
-    Ok(info.eh_frame.is_some())
+    let info = modules.sections_in(name, mapping.base_avma);
+    info.eh_frame.is_some()
 }
 
 /// Returns what is said where memory has the unwind data of a file.

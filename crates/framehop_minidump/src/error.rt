@@ -43,6 +43,10 @@ pub enum MinidumpError {
     /// The names and the build ids up to this one, at the offset, have more bytes than the file may have: they share some.
     #[error("names that share bytes: offset {offset}")]
     SharedNames { offset: u64 },
+    /// The first bytes of the modules in memory tell of more program headers and notes, together, than the file has bytes:
+    /// modules share some.
+    #[error("modules whose first bytes share program headers or notes")]
+    SharedHeaders,
     /// An allocation failed.
     #[error("out of memory")]
     OutOfMemory,

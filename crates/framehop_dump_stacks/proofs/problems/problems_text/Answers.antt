@@ -12,7 +12,7 @@ loop-file-preserved c =
     let dump = dump_view c.args.dump.now in
     let items = c.list-file-items.result.now in
     let within : l.file-index < length items = omega arith in
-    let told = subst (λ (file : NamedFile). IsLineOf dump c.args.files.now c.args.mappings.now file.name.items file.object file.problem c.in_ok-line.line.items) c.file-item.is c.in_ok-line.ensures in
+    let told = subst (λ (file : NamedFile). IsLineOf dump c.args.files.now c.args.mappings.now file.name.items file.object file.problem c.in_ok-line.line.items) c.file-item.is (rw c.in_ok-first.ensures at c.in_ok-line.ensures) in
     next-line dump c.args.files.now c.args.mappings.now c.args.files.now.list.items items c.list-file-items.ensures l.file-index _ within
     l.text.items c.in_ok-line.line.items _ told (c.in_ok-extend_from_slice.ensures.items ∙ ap (λ some. l.text.items ++ some) c.as_slice.ensures.value) l.invariant
 

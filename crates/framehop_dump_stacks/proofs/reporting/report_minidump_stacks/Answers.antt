@@ -1,7 +1,7 @@
 use Rattle.std.proofs.Common.{◌≡◌, ◌⊎◌, List, inl, inr, ⊎_elim, Err, rules}
 use Rattle.framehop_minidump.specs.declared.error.MinidumpError.{MinidumpError}
 use Rattle.framehop_dump_stacks.specs.Dump.{DumpView, dump_view}
-use Rattle.framehop_dump_stacks.specs.Minidump.{LoadedView, PartsView, parts_view, minidump_of}
+use Rattle.framehop_dump_stacks.specs.Minidump.{LoadedView, parts_view, minidump_of}
 use Rattle.framehop_dump_stacks.proofs.MinidumpLemmas.{minidump-is, refused-first, refused-second, not-both}
 use Rattle.framehop_dump_stacks.proofs.reporting.report_minidump_stacks.Goals as goal
 

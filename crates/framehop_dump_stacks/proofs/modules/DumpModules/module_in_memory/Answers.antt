@@ -7,4 +7,4 @@ use Rattle.framehop_dump_stacks.proofs.modules.DumpModules.module_in_memory.Goal
 pub returns : goal.returns
 returns c =
     let placed = rw c.in_ok-module_with.ensures at c.placed_at-2.ensures in
-    subst (λ sections. IfOk c.placed_at-2.result (λ made. made ≡ placed_at (module_with sections) c.args.mapping.now)) c.in_ok-info.ensures placed
+    subst (λ sections. IfOk c.placed_at-2.result (λ made. made ≡ placed_at (module_with sections) c.args.mapping.now)) c.sections-info.ensures placed
