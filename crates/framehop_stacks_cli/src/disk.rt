@@ -1,5 +1,6 @@
 //! The files of a disk: those that were mapped, and those of a folder.
 use crate::input::read_sized;
+use crate::known_names::KnownNames;
 use crate::messages::Messages;
 use framehop_cli::Result;
 use framehop_perf_stacks::perf_map::MapSource;
@@ -44,6 +45,8 @@ pub struct Disk<'a> {
     /// The folder of the maps that JIT compilers write, if one is named.
     pub perf_map: Option<&'a str>,
     pub program: Option<Program<'a>>,
+    /// The names by which mapped files and their debug files were read.
+    pub known_names: KnownNames,
 }
 
 impl FileSource for Disk<'_> {
@@ -131,7 +134,11 @@ impl Disk<'_> {
         } else {
             build_id_of(alloc, bytes)? == build_id
         };
-        if is_the_program {
+        if is_the_program
+            && self
+                .known_names
+                .allow(alloc, program.path.as_bytes(), name)?
+        {
             Ok(Some(Vec::from_slice(alloc, bytes)?))
         } else {
             Ok(None)
@@ -170,12 +177,17 @@ impl Disk<'_> {
     }
 
     /// Reads a file that was mapped, by the path to which links and `..` lead: below the root, if one is named, and else in
-    /// none of the folders of files that the kernel makes up.
+    /// none of the folders of files that the kernel makes up. One that was read by many other names is not read.
     fn read_mapped(&self, root: &str, path: &str) -> Result<Option<Vec<u8>>, AllocError> {
         let Some(real) = known(fs::canonicalize(self.rt, path))? else {
             return Ok(None);
         };
-        if self.is_allowed(root, real.as_str())? {
+        let alloc = self.rt.alloc();
+        if self.is_allowed(root, real.as_str())?
+            && self
+                .known_names
+                .allow(alloc, real.as_str().as_bytes(), path.as_bytes())?
+        {
             read_regular(self.rt, real.as_str())
         } else {
             Ok(None)

@@ -8,6 +8,7 @@ mod cores;
 mod disk;
 mod events;
 mod input;
+mod known_names;
 mod messages;
 mod printed;
 mod recording_parts;
@@ -35,6 +36,7 @@ use framehop_perf_stacks::kallsyms::read_kallsyms;
 use framehop_perf_stacks::kernel::KernelNames;
 use framehop_perf_stacks::run::Options;
 use input::{Kind, kind_of, name_of, read_input};
+use known_names::KnownNames;
 use messages::Messages;
 use printed::printed_text;
 use recordings::{print_recording, print_recording_parts};
@@ -111,6 +113,7 @@ fn run(rt: &HostRuntime) -> Result<u8> {
         vdso: matches.get_str("vdso"),
         perf_map: matches.get_str("perf-map"),
         program,
+        known_names: KnownNames::new(alloc),
     };
     let paths = matches.get_strs("file").unwrap_or(&[]);
     let form = if matches.get_flag("svg") {
