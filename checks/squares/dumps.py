@@ -146,6 +146,24 @@ def one_image(count):
     return {"dump": core_of_code(files, [(starts[0], (front[:0x200] + tables).ljust(size, b"\0"))])}
 
 
+def shared_headers(count):
+    """Mapped files that are not given, each with a path and a segment of its own; all segments are the same bytes of the file, which
+    tell of as many program headers."""
+    starts = [0x10000000 + PAGE * at for at in range(count)]
+    files = [(start, start + PAGE, b"/lib/%08d.so" % at) for at, start in enumerate(starts)]
+    front = image(min(count, 0xFE00))
+    return {"dump": core_of_code(files, [(start, front) for start in starts])}
+
+
+def names_of_one_file(count):
+    """A mapped file of as many segments of code, by as many names: in each of 16 places the path has a slash, or a dot between two."""
+    code = elf(3, [(PT_LOAD, 5, PAGE * at, bytes(8)) for at in range(min(count, 0xFE00))])
+    ways = lambda at: b"".join(b"/./" if at >> bit & 1 else b"/" for bit in range(16))
+    files = [(0x10000000 + PAGE * at, 0x10000000 + PAGE * (at + 1), b"/lib" + ways(at) + b"code.so") for at in range(count)]
+    listed = [thread_note(1, STACKS), mapped(files)]
+    return {"dump": core(listed, [(STACKS, stack_at(STACKS))]), "root/lib/code.so": code}
+
+
 def shared_code(count):
     """A mapped file whose segments of code are all the same bytes of the file, eight for each."""
     code = elf(3, [(PT_LOAD, 5, PAGE * at, bytes(8 * count)) for at in range(min(count, 0xFE00))])
@@ -218,6 +236,21 @@ def minidump_modules(count):
     return {"dump": minidump(streams, tail + struct.pack("<I", len(name)) + name + b"\0\0")}
 
 
+def minidump_shared_headers(count):
+    """Modules that are not given, each with a range of memory of its own; all ranges are the same bytes of the file, which tell of as
+    many segments of code."""
+    front = image(0)[:56] + struct.pack("<H", min(count, 0xFE00)) + image(0)[58:64] + image(0)[64:] * min(count, 0xFE00)
+    name = "/lib/code.so".encode("utf-16-le")
+    tail = stack_at(0) + context(STACKS)
+    starts = [0x10000000 + 0x10000000 * at for at in range(count)]
+    after = len(tail) + len(front)
+    listed = lambda place: struct.pack("<I", count) + b"".join(
+        struct.pack("<QIIII", start, PAGE, 0, 0, place + after) + bytes(84) for start in starts)
+    ranges = lambda place: struct.pack("<I", count) + b"".join(struct.pack("<QII", start, len(front), place + len(tail)) for start in starts)
+    streams = [SYSTEM, (3, lambda place: thread_list([STACKS], place, 0)), (4, listed), (5, ranges)]
+    return {"dump": minidump(streams, tail + front + struct.pack("<I", len(name)) + name + b"\0\0")}
+
+
 def minidump_maps(count):
     """A text of /proc/PID/maps of many lines, and one that is as long and has no line."""
     lines = "".join("%x-%x r-xp 00000000 00:00 0\n" % (PAGE * at, PAGE * (at + 1)) for at in range(count)) + "f" * (30 * count)
@@ -243,8 +276,8 @@ def write(folder, files):
 
 
 KINDS = {function.__name__.replace("_", "-"): function for function in (
-    threads, threads_backwards, masks, paths, code_in_memory, mappings_of_one_file, shared_images, one_image, shared_code, section_names, notes_of_one_place,
-    minidump_threads, minidump_modules, minidump_maps, minidump_streams)}
+    threads, threads_backwards, masks, paths, code_in_memory, mappings_of_one_file, shared_images, one_image, shared_headers, names_of_one_file, shared_code,
+    section_names, notes_of_one_place, minidump_threads, minidump_modules, minidump_shared_headers, minidump_maps, minidump_streams)}
 
 if __name__ == "__main__":
     if len(sys.argv) != 4:
