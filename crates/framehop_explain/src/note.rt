@@ -1,6 +1,6 @@
 //! Notes: lines that begin with two blanks.
-ghost use Rattle.std.specs.Prelude.{◌≡◌, ◌++◌, [], map, IfOk, OnOk};
-ghost use Rattle.framehop_explain.specs.Note.{IsNote, printable, note_line};
+ghost use Rattle.std.specs.Prelude.{◌≡◌, ◌++◌, [], IfOk, OnOk};
+ghost use Rattle.framehop_explain.specs.Note.{IsNote, has_c1_after, printable, printed, note_line};
 
 use std::alloc::{AllocError, Global};
 use std::marker::Model;
@@ -32,13 +32,14 @@ impl Note {
         }
     }
 
-    /// Returns the same note with a further line. A control character of its text becomes a question mark.
+    /// Returns the same note with a further line. A control character of its text becomes a question mark, and where one is of
+    /// C1, so does each byte beyond ASCII.
     pub fn with_line(self, text: &str) -> Result<Self, AllocError>
         ensures { IfOk result (λ note. note ≡ self ++ note_line text.now) }
     {
         let mut bytes = self.bytes;
         bytes.extend_from_slice(b"  ")?;
-        push_printable(text, &mut bytes)?;
+        push_printed(text.as_bytes(), &mut bytes)?;
         bytes.extend_from_slice(b"\n")?;
         Ok(Note { bytes })
     }
@@ -52,24 +53,39 @@ impl Note {
     }
 }
 
-/// Appends a text. A control character becomes a question mark.
-fn push_printable(text: &str, out: &mut Vec<u8>) -> Result<(), AllocError>
-    ensures { OnOk result (out.new.items ≡ out.old.items ++ map printable text.now) }
+/// Appends a text as it is printed.
+fn push_printed(text: &[u8], out: &mut Vec<u8>) -> Result<(), AllocError>
+    ensures { OnOk result (out.new.items ≡ out.old.items ++ printed text.now) }
 {
-    for byte in text.as_bytes() {
-        out.push(printable(*byte))?;
+    let c1 = has_c1(text);
+    for byte in text {
+        out.push(printable(c1, *byte))?;
     }
     Ok(())
 }
 
-/// Returns a byte as it is printed.
+/// Returns a byte as it is printed, by whether its text has a control character of C1.
 #[tactic(auto, unfolding(crate::specs::Note::printable))]
-fn printable(byte: u8) -> u8
-    ensures { result ≡ printable byte }
+fn printable(c1: bool, byte: u8) -> u8
+    ensures { result ≡ printable c1 byte }
 {
-    if byte < b' ' || byte == 127 {
+    if byte < b' ' || byte == 127 || c1 && byte >= 128 {
         b'?'
     } else {
         byte
     }
+}
+
+/// Returns whether UTF-8 has a control character of C1.
+fn has_c1(text: &[u8]) -> bool
+    ensures { result ≡ has_c1_after 0 text.now }
+{
+    let mut previous = 0u8;
+    for byte in text {
+        if previous == 0xc2 && *byte < 0xa0 {
+            return true;
+        }
+        previous = *byte;
+    }
+    false
 }
