@@ -79,6 +79,13 @@ def threads_backwards(count):
     return {"dump": core([thread_note(at + 1, stack) for at, stack in enumerate(stacks)], [(stack, stack_at(stack)) for stack in stacks])}
 
 
+def overlapping(count):
+    """Threads, each with a segment of memory of its own, of which the last two overlap."""
+    stacks = [STACKS + PAGE * at for at in range(count)]
+    loads = [(stack, stack_at(stack)) for stack in stacks] + [(stacks[-1] + 32, stack_at(0))]
+    return {"dump": core([thread_note(at + 1, stack) for at, stack in enumerate(stacks)], loads)}
+
+
 def masks(count):
     """Threads without a note of masks, and as many other notes after the last."""
     others = [note(b"LINUX", 0x202, b"") for _ in range(count)]
@@ -115,9 +122,11 @@ def code_in_memory(count):
 
 def mappings_of_one_file(count):
     """Mappings of one file that is not given, each with a segment of its own; as many program headers are in its first bytes."""
-    starts = [0x10000000 + PAGE * at for at in range(count)]
+    front = image(min(count, 0xFE00))
+    others = 0x10000000 + PAGE * (1 + len(front) // PAGE)
+    starts = [0x10000000] + [others + PAGE * at for at in range(count - 1)]
     files = [(start, start + PAGE, b"/lib/code.so") for start in starts]
-    return {"dump": core_of_code(files, [(starts[0], image(min(count, 0xFE00)))] + [(start, bytes(16)) for start in starts[1:]])}
+    return {"dump": core_of_code(files, [(starts[0], front)] + [(start, bytes(16)) for start in starts[1:]])}
 
 
 def image_with_frames(svma):
@@ -129,7 +138,7 @@ def image_with_frames(svma):
 
 def shared_images(count):
     """Mapped files that are not given, each with a path and a segment of its own; all segments are the same bytes of the file, eight
-    for each, with a table of unwind data from the first page on."""
+    for each, with a table of unwind data from the first page on. Their program headers are more than the file."""
     size = PAGE * (1 + 8 * count // PAGE)
     starts = [0x10000000 + size * at for at in range(count)]
     files = [(start, start + size, b"/lib/%08d.so" % at) for at, start in enumerate(starts)]
@@ -149,9 +158,10 @@ def one_image(count):
 def shared_headers(count):
     """Mapped files that are not given, each with a path and a segment of its own; all segments are the same bytes of the file, which
     tell of as many program headers."""
-    starts = [0x10000000 + PAGE * at for at in range(count)]
-    files = [(start, start + PAGE, b"/lib/%08d.so" % at) for at, start in enumerate(starts)]
     front = image(min(count, 0xFE00))
+    size = PAGE * (1 + len(front) // PAGE)
+    starts = [0x10000000 + size * at for at in range(count)]
+    files = [(start, start + PAGE, b"/lib/%08d.so" % at) for at, start in enumerate(starts)]
     return {"dump": core_of_code(files, [(start, front) for start in starts])}
 
 
@@ -276,8 +286,8 @@ def write(folder, files):
 
 
 KINDS = {function.__name__.replace("_", "-"): function for function in (
-    threads, threads_backwards, masks, paths, code_in_memory, mappings_of_one_file, shared_images, one_image, shared_headers, names_of_one_file, shared_code,
-    section_names, notes_of_one_place, minidump_threads, minidump_modules, minidump_shared_headers, minidump_maps, minidump_streams)}
+    threads, threads_backwards, overlapping, masks, paths, code_in_memory, mappings_of_one_file, shared_images, one_image, shared_headers, names_of_one_file,
+    shared_code, section_names, notes_of_one_place, minidump_threads, minidump_modules, minidump_shared_headers, minidump_maps, minidump_streams)}
 
 if __name__ == "__main__":
     if len(sys.argv) != 4:
