@@ -17,6 +17,7 @@ pub mod Answer
 pub mod CallFrames
 pub mod Compact
 pub mod Modules
+pub mod Loaded
 pub mod ModuleData
 pub mod TextData
 pub mod PlacedData

@@ -1,6 +1,7 @@
 //! The modules of an unwinder, in the order of their starts.
-ghost use Rattle.std.specs.Prelude.{◌≡◌, ◌-◌, ◌<◌, ◌≤◌, IfErr, OnOk, MatchOption, None, Some, true, false, [], length, take, drop, remove, nat_le, if◌then◌else◌};
+ghost use Rattle.std.specs.Prelude.{◌≡◌, ◌-◌, ◌<◌, ◌≤◌, IfOk, IfErr, OnOk, MatchOption, None, Some, true, false, [], length, take, drop, remove, nat_le, if◌then◌else◌};
 ghost use Rattle.std.specs.List.Sorted.{IsNonDecreasing, IsPartitionPoint};
+ghost use Rattle.framehop.specs.Loaded.{with_modules};
 ghost use Rattle.framehop.specs.Modules.{starting_by, starting_above, with_module, has_start, without_module, starts_by, covering, greatest_end};
 
 use crate::modules::Module;
@@ -47,6 +48,19 @@ impl<D: SectionBytes + Drop> ModuleList<D> {
             modules: Vec::new(alloc),
             starts: Vec::new(alloc),
         }
+    }
+
+    /// Returns a list of these modules, each inserted after those that start at or below its start.
+    pub fn of_modules(alloc: Global, modules: Vec<Module<D>>) -> Result<Self, AllocError>
+        ensures { IfOk result (λ list. list ≡ with_modules modules.items []) }
+    {
+        let mut list = ModuleList::new(alloc);
+        for module in modules {
+            if list.insert(module).is_err() {
+                return Err(AllocError);
+            }
+        }
+        Ok(list)
     }
 
     /// Returns the modules, in the order of their starts.

@@ -12,6 +12,7 @@ ghost use Rattle.framehop.specs.Fresh.{fresh, outcome_of, step};
 ghost use Rattle.framehop_cache.specs.Cache.{found, counted, ways};
 ghost use Rattle.framehop_cache.specs.CacheResult.{result_of, HitRuns};
 ghost use Rattle.framehop.specs.Soundness.{key_of, sets_after_miss, MayTakeMemory};
+ghost use Rattle.framehop.specs.Loaded.{IsMadeWith};
 ghost use Rattle.framehop.specs.Modules.{IsMade, covering};
 
 use crate::cache::{AllocationPolicy, Cache};
@@ -77,6 +78,30 @@ impl<D: SectionBytes + Drop, A: Unwinding, P: AllocationPolicy> UnwinderInternal
             arch: PhantomData,
             allocation_policy: PhantomData,
         })
+    }
+
+    /// Returns an unwinder with these modules, added one after another, of the next generation.
+    ///
+    /// # Errors
+    ///
+    /// `GenerationsExhausted` where the counter is at its end (tested first), and `OutOfMemory`. The counter is
+    /// unchanged.
+    pub fn with_modules(
+        alloc: Global,
+        modules: Vec<Module<D>>,
+        generations: &mut Generations,
+    ) -> Result<Self, ModuleListError>
+        ensures { IsMadeWith modules.items result generations.old generations.new }
+    {
+        if generations.is_exhausted() {
+            return Err(ModuleListError::GenerationsExhausted);
+        }
+        let Ok(modules) = ModuleList::of_modules(alloc, modules) else {
+            return Err(ModuleListError::OutOfMemory);
+        };
+        let mut unwinder = UnwinderInternal::new(alloc, generations)?;
+        unwinder.modules = modules;
+        Ok(unwinder)
     }
 
     /// Returns the modules, in the order of their starts.

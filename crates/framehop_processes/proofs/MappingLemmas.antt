@@ -42,6 +42,7 @@ use Rattle.std.proofs.lemmas.Bool.{leb-true, leb-false, ltb-true, ltb-false, le-
 use Rattle.std.proofs.lemmas.List.{length-append, length-take, map-append, take-append-drop, take_more}
 use Rattle.std.proofs.lemmas.List.Elements.{filter-append}
 use Rattle.std.specs.List.Sorted.{IsNonDecreasingBy, IsPartitionPoint}
+use Rattle.framehop.specs.Loaded.{with_modules}
 use Rattle.framehop.specs.Modules.{ModuleView, with_module, has_start, without_module, starts_by, starting_by, starting_above, greatest_end}
 use Rattle.framehop.proofs.ModuleLemmas.{filter-divided, filter-behind}
 use Rattle.framehop_processes.specs.declared.mapping.Mapping.{Mapping}
@@ -250,6 +251,56 @@ order-back from (x ∷ xs) ys order =
     let own = order.1 in
     weaker-order from x.end ys (omega (arith, first, own)) (order-back x.end xs ys order.2)
 
+-- ---- a mapping between those before it and those after it
+
+starts-past : (from : ℕ) (m : Mapping) (before after : List Mapping) → IsInOrder from (before ++ m ∷ after) → from ≤ m.start
+starts-past from m [] after order = order.0
+starts-past from m (x ∷ before) after order =
+    let first = order.0 in
+    let own = order.1 in
+    let rest = starts-past x.end m before after order.2 in
+    omega (arith, first, own, rest)
+
+ends-before : (from : ℕ) (m : Mapping) (before after : List Mapping) → IsInOrder from (before ++ m ∷ after) → EndBy m.start before
+ends-before from m [] after order = tt
+ends-before from m (x ∷ before) after order =
+    (starts-past x.end m before after order.2, ends-before x.end m before after order.2)
+
+module _ (address : ℕ) (m : Mapping) (before after : List Mapping) (order : IsInOrder 0 (before ++ m ∷ after)) where
+  behind : IsInOrder m.start (m ∷ after)
+  behind = let own = order-back 0 before (m ∷ after) order in (omega arith, own.1, own.2)
+
+  pub order-before : IsInOrder 0 before
+  order-before = order-front 0 before (m ∷ after) order
+
+  pub order-after : IsInOrder 0 after
+  order-after = weaker-order 0 m.end after (omega arith) behind.2
+
+  pub below-before : address ≤ m.start → below address before ≡ below address (before ++ m ∷ after)
+  below-before low = sym (
+      below-append address before (m ∷ after)
+      ∙ ap (λ back. below address before ++ back) (below-none address m.start (m ∷ after) behind low)
+      ∙ append-empty (below address before))
+
+  pub below-across : m.start < address → before ++ part_below address m ∷ below address after ≡ below address (before ++ m ∷ after)
+  below-across high =
+      let here : nat_lt m.start address ≡ true = le-leb _ _ (omega (arith, high)) in
+      let front = below-all address 0 before order-before (ends-later m.start address before (omega (arith, high)) (ends-before 0 m before after order)) in
+      sym (below-append address before (m ∷ after) ∙ rw (here, front) refl)
+
+  pub above-after : m.end ≤ address → above address after ≡ above address (before ++ m ∷ after)
+  above-after low =
+      let own = behind.1 in
+      let here : nat_lt address m.end ≡ false = lt-leb _ _ (omega (arith, low)) in
+      let front = above-none address before (ends-later m.start address before (omega (arith, low, own)) (ends-before 0 m before after order)) in
+      sym (above-append address before (m ∷ after) ∙ rw (here, front) refl)
+
+  pub above-across : address < m.end → above address before ++ part_above address m ∷ after ≡ above address (before ++ m ∷ after)
+  above-across high =
+      let here : nat_lt address m.end ≡ true = le-leb _ _ (omega (arith, high)) in
+      let back = above-all address m.end after behind.2 (omega (arith, high)) in
+      sym (above-append address before (m ∷ after) ∙ rw (here, back) refl)
+
 -- what is wholly before the new mapping or after it stays
 module _ (new : Mapping) (some : new.start < new.end) (before middle after : List Mapping)
     (order : IsInOrder 0 (before ++ (middle ++ after))) (ends : EndBy new.start before)
@@ -441,6 +492,20 @@ pub order-removed-all : (from : ℕ) (before middle after : List Mapping) → Is
 order-removed-all from [] middle after order = order-back from middle after order
 order-removed-all from (x ∷ before) middle after order =
     (order.0, order.1, order-removed-all x.end before middle after order.2)
+
+-- modules that are added in order
+pub modules-loaded : (module_of : Mapping → ModuleView) → StartsAt module_of → (added before : List Mapping)
+    → IsInOrder 0 (before ++ added) → with_modules (map module_of added) (map module_of before) ≡ map module_of (before ++ added)
+modules-loaded module_of starts [] before order = ap (map module_of) (sym (append-empty before))
+modules-loaded module_of starts (m ∷ added) before order =
+    let parted : before ++ m ∷ added ≡ (before ++ m ∷ []) ++ added = sym (append-parts before (m ∷ []) added) in
+    let later = subst (λ (all : List Mapping). IsInOrder 0 all) parted order in
+    let next : with_module (module_of m) (map module_of before) ≡ map module_of (before ++ m ∷ []) =
+    ap (λ (l : List Mapping). with_module (module_of m) (map module_of l)) (sym (append-empty before))
+    ∙ modules-between module_of starts 0 m before [] (order-front 0 (before ++ m ∷ []) added later) in
+    ap (with_modules (map module_of added)) next
+    ∙ modules-loaded module_of starts added (before ++ m ∷ []) later
+    ∙ ap (map module_of) (sym parted)
 
 -- the last mapping of a part is removed
 pub last-removed : (module_of : Mapping → ModuleView) → StartsAt module_of

@@ -2,3 +2,4 @@
 pub mod Refusal
 pub mod Mappings
 pub mod Process
+pub mod Shared

@@ -59,7 +59,7 @@ fn below(alloc: Global, mappings: &[Mapping], address: u64) -> Result<Vec<Mappin
 }
 
 /// Returns the part of a mapping that lies below an address (AVMA).
-fn part_below(address: u64, mapping: Mapping) -> Mapping
+pub(crate) fn part_below(address: u64, mapping: Mapping) -> Mapping
     ensures { result ≡ part_below address mapping }
 {
     let end = mapping.end.min(address);
@@ -78,7 +78,7 @@ fn above(alloc: Global, mappings: &[Mapping], address: u64) -> Result<Vec<Mappin
 }
 
 /// Returns the part of a mapping that lies at or above an address (AVMA).
-fn part_above(address: u64, mapping: Mapping) -> Mapping
+pub(crate) fn part_above(address: u64, mapping: Mapping) -> Mapping
     ensures { result ≡ part_above address mapping }
 {
     let start = mapping.start.max(address);

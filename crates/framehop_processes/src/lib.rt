@@ -7,10 +7,12 @@ pub mod maker;
 pub mod mapping;
 mod modules;
 pub mod process;
+pub mod shared;
 pub mod unwinder;
 
 pub use error::ProcessesError;
 pub use maker::ModuleMaker;
 pub use mapping::Mapping;
 pub use process::Process;
+pub use shared::SharedMappings;
 pub use unwinder::ProcessUnwinder;

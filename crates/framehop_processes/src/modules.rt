@@ -1,5 +1,5 @@
 //! Modules of mappings that an unwinder gets or loses.
-ghost use Rattle.std.specs.Prelude.{◌≡◌, ◌+◌, ◌-◌, ◌^◌, ◌<◌, ◌≤◌, ◌++◌, List, length, map, IfErr, OnOk, OnErr, Err};
+ghost use Rattle.std.specs.Prelude.{◌≡◌, ◌+◌, ◌-◌, ◌^◌, ◌<◌, ◌≤◌, ◌++◌, List, length, map, IfOk, IfErr, OnOk, OnErr, Err};
 ghost use Rattle.framehop.specs.Modules.{ModuleView, with_module};
 ghost use Rattle.framehop_processes.specs.declared.mapping.Mapping.{Mapping};
 ghost use Rattle.framehop_processes.specs.Mappings.{IsInOrder};
@@ -10,7 +10,24 @@ use crate::maker::ModuleMaker;
 use crate::mapping::Mapping;
 use crate::unwinder::ProcessUnwinder;
 use framehop::generations::Generations;
-use std::alloc::Global;
+use std::alloc::{AllocError, Global};
+
+/// Returns the modules of mappings, as the maker makes them.
+pub(crate) fn made_modules<U: ProcessUnwinder, M: ModuleMaker<U>>(
+    alloc: Global,
+    maker: &M,
+    mappings: &[Mapping],
+) -> Result<Vec<U::Module>, AllocError>
+where
+    U::Module: Drop,
+    ensures { IfOk result (λ made. map U.module_view made.items ≡ map (M.module_of maker.now) mappings.now) }
+{
+    let mut modules = Vec::with_capacity(alloc, mappings.len())?;
+    for mapping in mappings {
+        modules.push(maker.make_module(alloc, mapping)?)?;
+    }
+    Ok(modules)
+}
 
 /// Adds the modules of mappings, which the maker makes, among those of others. Each takes a generation.
 pub(crate) fn add_modules<U: ProcessUnwinder, M: ModuleMaker<U>>(

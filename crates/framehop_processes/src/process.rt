@@ -8,7 +8,8 @@ use crate::around::{replace, split_ending_by, split_starting_below, with_mapping
 use crate::error::ProcessesError;
 use crate::maker::ModuleMaker;
 use crate::mapping::Mapping;
-use crate::modules::{add_modules, remove_modules};
+use crate::modules::{add_modules, made_modules, remove_modules};
+use crate::shared::SharedMappings;
 use crate::unwinder::ProcessUnwinder;
 use framehop::generations::Generations;
 use std::alloc::{AllocError, Global};
@@ -62,6 +63,33 @@ impl<U: ProcessUnwinder> Process<U> {
             mappings: Vec::new(alloc),
             unwinder,
         })
+    }
+
+    /// Returns a process with these mappings, and an unwinder with their modules, as the maker makes them, of the next
+    /// generation.
+    ///
+    /// # Errors
+    ///
+    /// `GenerationsExhausted` where the counter is at its end, and `OutOfMemory`. No generation was drawn then.
+    pub fn with_mappings<M: ModuleMaker<U>>(
+        alloc: Global,
+        maker: &M,
+        mappings: &SharedMappings,
+        generations: &mut Generations,
+    ) -> Result<Self, ProcessesError>
+    where
+        U::Module: Drop,
+        ensures served { IfOk result (λ made. HasModules (M.module_of maker.now) made) }
+        ensures mapped { IfOk result (λ made. made.mappings ≡ mappings.now) }
+        ensures drawn { IfOk result (λ made. (made.unwinder.generation ≡ generations.old)
+            × (generations.new ≡ generations.old + 1)) }
+        ensures refused { IfErr result (λ error. (generations.new ≡ generations.old) × ((error ≡ ProcessesError.EmptyMapping) → ⊥)
+            × ((error ≡ ProcessesError.GenerationsExhausted) → (generations.old ≡ 2 ^ 64 - 1))) }
+    {
+        let mappings = mappings.to_list(alloc)?;
+        let modules = made_modules(alloc, maker, mappings.as_slice())?;
+        let unwinder = U::with_modules(alloc, modules, generations)?;
+        Ok(Process { mappings, unwinder })
     }
 
     /// Maps a part of a file into the process, so that it can be executed, in the place of what it

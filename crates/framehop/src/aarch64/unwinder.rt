@@ -1,5 +1,6 @@
 //! The unwinder of aarch64.
 ghost use Rattle.std.specs.Prelude.{◌≡◌};
+ghost use Rattle.framehop.specs.Loaded.{IsMadeWith};
 ghost use Rattle.framehop.specs.Modules.{IsMade};
 
 use crate::aarch64::cache::CacheAarch64;
@@ -51,6 +52,22 @@ impl<D: SectionBytes + Drop, P: AllocationPolicy> UnwinderAarch64<D, P> {
         ensures { IsMade result generations.old generations.new }
     {
         Ok(UnwinderAarch64(UnwinderInternal::new(alloc, generations)?))
+    }
+
+    /// Returns an unwinder with these modules, added one after another. All of them take one generation, the next.
+    ///
+    /// # Errors
+    ///
+    /// `GenerationsExhausted` where the counter is at its end (tested first), and `OutOfMemory`. The counter is
+    /// unchanged.
+    pub fn with_modules(
+        alloc: Global,
+        modules: Vec<Module<D>>,
+        generations: &mut Generations,
+    ) -> Result<Self, ModuleListError>
+        ensures { IsMadeWith modules.items result generations.old generations.new }
+    {
+        Ok(UnwinderAarch64(UnwinderInternal::with_modules(alloc, modules, generations)?))
     }
 
     /// Returns the unwinder that this one wraps.

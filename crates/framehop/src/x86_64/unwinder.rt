@@ -1,5 +1,6 @@
 //! The unwinder of x86_64.
 ghost use Rattle.std.specs.Prelude.{◌≡◌};
+ghost use Rattle.framehop.specs.Loaded.{IsMadeWith};
 ghost use Rattle.framehop.specs.Modules.{IsMade};
 
 use crate::cache::{AllocationPolicy, MayAllocateDuringUnwind};
@@ -51,6 +52,22 @@ impl<D: SectionBytes + Drop, P: AllocationPolicy> UnwinderX86_64<D, P> {
         ensures { IsMade result generations.old generations.new }
     {
         Ok(UnwinderX86_64(UnwinderInternal::new(alloc, generations)?))
+    }
+
+    /// Returns an unwinder with these modules, added one after another. All of them take one generation, the next.
+    ///
+    /// # Errors
+    ///
+    /// `GenerationsExhausted` where the counter is at its end (tested first), and `OutOfMemory`. The counter is
+    /// unchanged.
+    pub fn with_modules(
+        alloc: Global,
+        modules: Vec<Module<D>>,
+        generations: &mut Generations,
+    ) -> Result<Self, ModuleListError>
+        ensures { IsMadeWith modules.items result generations.old generations.new }
+    {
+        Ok(UnwinderX86_64(UnwinderInternal::with_modules(alloc, modules, generations)?))
     }
 
     /// Returns the unwinder that this one wraps.

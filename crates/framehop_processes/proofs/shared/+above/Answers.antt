@@ -1,0 +1,31 @@
+use Rattle.std.proofs.Common.{◌≡◌, List, ◌∷◌, ◌++◌, rules, arith, length-append, subst}
+use Rattle.framehop_processes.specs.Mappings.{IsInOrder}
+use Rattle.framehop_processes.specs.declared.mapping.Mapping.{Mapping}
+use Rattle.framehop_processes.proofs.MappingLemmas.{order-before, order-after, above-after, above-across}
+use Rattle.framehop_processes.proofs.shared.+above.Goals as goal
+
+pub above-requires : goal.above-requires
+above-requires t c =
+    let whole : c.args.tree.now.value ≡ c.in-Fork.before.value ++ c.in-Fork.mapping ∷ c.in-Fork.after.value = search rules in
+    let order = subst (λ (list : List Mapping). IsInOrder 0 list) whole c.requires in
+    (grind (arith, length-append), order-after c.args.address c.in-Fork.mapping c.in-Fork.before.value c.in-Fork.after.value order)
+
+pub above-requires-in-Fork : goal.above-requires-in-Fork
+above-requires-in-Fork t c =
+    let whole : c.args.tree.now.value ≡ c.in-Fork.before.value ++ c.in-Fork.mapping ∷ c.in-Fork.after.value = search rules in
+    let order = subst (λ (list : List Mapping). IsInOrder 0 list) whole c.requires in
+    (grind (arith, length-append), order-before c.args.address c.in-Fork.mapping c.in-Fork.before.value c.in-Fork.after.value order)
+
+pub returns-then-mapping-address : goal.returns-then-mapping-address
+returns-then-mapping-address t c =
+    let whole : c.args.tree.now.value ≡ c.in-Fork.before.value ++ c.in-Fork.mapping ∷ c.in-Fork.after.value = search rules in
+    let order = subst (λ (list : List Mapping). IsInOrder 0 list) whole c.requires in
+    let is = above-after c.args.address c.in-Fork.mapping c.in-Fork.before.value c.in-Fork.after.value order (omega arith) in
+    search (rules, is, whole)
+
+pub returns-in_ok-clone-in-Fork : goal.returns-in_ok-clone-in-Fork
+returns-in_ok-clone-in-Fork t c =
+    let whole : c.args.tree.now.value ≡ c.in-Fork.before.value ++ c.in-Fork.mapping ∷ c.in-Fork.after.value = search rules in
+    let order = subst (λ (list : List Mapping). IsInOrder 0 list) whole c.requires in
+    let is = above-across c.args.address c.in-Fork.mapping c.in-Fork.before.value c.in-Fork.after.value order (omega arith) in
+    search (rules, is, whole)
