@@ -102,6 +102,11 @@ impl SharedMappings {
         self.tree.len()
     }
 
+    /// Returns whether other clones have these mappings, too. Nothing that is promised depends on it.
+    pub fn is_shared(&self) -> bool {
+        Rc::strong_count(&self.tree) > 1
+    }
+
     /// Returns these mappings with a new one, which has an address, in the place of what it overlaps: of an overlapped
     /// mapping what lies outside the new one stays.
     ///
