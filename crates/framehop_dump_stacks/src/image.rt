@@ -41,7 +41,7 @@ pub fn build_id_in<'a>(head: &'a [u8], segments: &[ProgramHeader]) -> &'a [u8]
 
 /// Returns the unwind sections of a file that lies at a base and has its `.eh_frame_hdr` in a segment, as memory has them,
 /// which lends their bytes: none where it has not both `.eh_frame_hdr` and `.eh_frame`.
-pub fn sections_behind<'m>(
+pub(crate) fn sections_behind<'m>(
     memory: &ProcessMemory<'m>,
     header: Option<ProgramHeader>,
     base: u64,

@@ -77,7 +77,7 @@ fn printable(c1: bool, byte: u8) -> u8
 }
 
 /// Returns whether UTF-8 has a control character of C1.
-fn has_c1(text: &[u8]) -> bool
+pub fn has_c1(text: &[u8]) -> bool
     ensures { result ≡ has_c1_after 0 text.now }
 {
     let mut previous = 0u8;

@@ -10,6 +10,7 @@ use Rattle.framehop_core.specs.declared.error.Error.TheVariants.{CouldNotReadSta
 use Rattle.framehop_backtrace.specs.declared.frame.BacktraceEnd.{BacktraceEnd}
 use Rattle.framehop_backtrace.specs.declared.frame.BacktraceEnd.TheVariants.{Root, FramePointerZero, Limit, SignalFrameUnread, CfaUnknown, ReturnAddressUnknown, DidNotAdvance as RowDidNotAdvance, RegistersUnknown, Refused, NoCaller, NotCode}
 use Rattle.framehop_backtrace.specs.declared.frame.FoundBy.{FoundBy}
+use Rattle.framehop_explain.specs.Note.{has_c1_after}
 use Rattle.framehop_backtrace.specs.declared.frame.FoundBy.TheVariants.{First, Cfi, Signal, FramePointer, Guess}
 use Rattle.framehop_processes.specs.declared.mapping.Mapping.{Mapping}
 use Rattle.framehop_symbols.specs.declared.files.Files.{Files}
@@ -24,11 +25,6 @@ hexadecimal n = digits 16 false n
 -- how many bytes of a name are printed
 abbrev pub LONGEST_NAME : ℕ
 LONGEST_NAME = 2048
-
--- after a byte there is a control character of the set C1, U+0080 to U+009F (ISO 6429): in UTF-8, 0xc2 and a byte below 0xa0
-abbrev pub has_c1_after : ℕ → List ℕ → Bool
-has_c1_after previous [] = false
-has_c1_after previous (byte ∷ bytes) = ((previous == 0xc2) && nat_lt byte 0xa0) || has_c1_after byte bytes
 
 -- a text: UTF-8 without such characters
 unfoldable pub is_text : List ℕ → Bool

@@ -7,12 +7,13 @@ ghost use Rattle.std.specs.List.{flat_map, list_any};
 ghost use Rattle.framehop_processes.specs.Mappings.{IsInOrder};
 ghost use Rattle.framehop_symbols.specs.Place.{place_view};
 ghost use Rattle.framehop_frames.specs.Stack.{shown_frame};
-ghost use Rattle.framehop_frames.specs.Line.{has_c1_after, is_text, hex_digit, is_changed, is_escaped, printed_byte, printed, plain, base_name, hexadecimal, label_of, unnamed_text, refusal_name, end_name, is_sure_by, part_of, mark_of_part, end_text, mark, mark_of, frames_text, frame_label, line_of, refused_line, described, found_text, trampoline_text, looked_up, frame_line, last_line, block_of, time_text, head_of};
+ghost use Rattle.framehop_frames.specs.Line.{is_text, hex_digit, is_changed, is_escaped, printed_byte, printed, plain, base_name, hexadecimal, label_of, unnamed_text, refusal_name, end_name, is_sure_by, part_of, mark_of_part, end_text, mark, mark_of, frames_text, frame_label, line_of, refused_line, described, found_text, trampoline_text, looked_up, frame_line, last_line, block_of, time_text, head_of};
 
 use crate::stack::{Stack, StackFrame};
 use framehop::Error;
 use framehop_backtrace::{BacktraceEnd, FoundBy};
 use framehop_bytes::bytes::front;
+use framehop_explain::note::has_c1;
 use framehop_processes::Mapping;
 use framehop_symbols::files::Files;
 use framehop_symbols::place::{Place, place_of};
@@ -524,20 +525,6 @@ fn is_text(name: &[u8]) -> bool
         Ok(_) => !has_c1(name),
         Err(_) => false,
     }
-}
-
-/// Returns whether UTF-8 has a control character of C1.
-fn has_c1(text: &[u8]) -> bool
-    ensures { result ≡ has_c1_after 0 text.now }
-{
-    let mut previous = 0u8;
-    for byte in text {
-        if previous == 0xc2 && *byte < 0xa0 {
-            return true;
-        }
-        previous = *byte;
-    }
-    false
 }
 
 /// Returns the time of a sample with which the head of its block ends.

@@ -441,7 +441,7 @@ fn debug_frame_in<'m>(
 }
 
 /// Returns a module that lies at no address, with the unwind data of sections.
-pub fn module_of<'m>(
+fn module_of<'m>(
     alloc: Global,
     info: ExplicitModuleSectionInfo<MappedBytes<'m>>,
 ) -> Result<Module<MappedBytes<'m>>, AllocError>
