@@ -2,3 +2,5 @@
 pub mod RangeLemmas
 pub mod CodeLemmas
 pub mod PartLemmas
+pub mod StairLemmas
+pub mod RangeTreeLemmas

@@ -1,15 +1,15 @@
 -- The first range that has some bytes, among ranges that are apart.
-use Rattle.std.proofs.Common.{◌≡◌, ℕ, zero, suc, ◌+◌, ◌-◌, ◌<◌, ◌≤◌, ◌≢◌, Bool, true, false, inl, inr, List, [], ◌∷◌, length, drop, Some, None, if◌then◌else◌, refl, ap, sym, ◌∙◌, arith}
-use Rattle.std.specs.Prelude.{sum_by, slice_index_or}
+use Rattle.std.proofs.Common.{◌≡◌, ℕ, zero, suc, ◌+◌, ◌-◌, ◌<◌, ◌≤◌, Bool, true, false, inl, inr, List, [], ◌∷◌, length, Some, None, if◌then◌else◌, refl, ap, sym, ◌∙◌, arith}
+use Rattle.std.specs.Prelude.{sum_by, slice_index_or, is_some, IfSome, nat_lt, Option}
 use Rattle.std.specs.List.{find}
 use Rattle.std.specs.Prelude.{map, slice_index}
 use Rattle.std.proofs.lemmas.List.Sums.{sum_by-cons}
 use Rattle.std.proofs.lemmas.Bool.{cases_Bool, cases_order}
-use Rattle.std.proofs.lemmas.List.{get_or_default, length-map, length-take}
+use Rattle.std.proofs.lemmas.List.{get_or_default, length-map}
 use Rattle.framehop_bytes.specs.Place.{IsPlace}
 use Rattle.std.proofs.lemmas.Bool.Decides.{nat_tests}
 use Rattle.framehop_memory.specs.declared.memory.MemoryRange.{MemoryRange}
-use Rattle.framehop_memory.specs.Range.{dumped, has, covers, start_of, AreApart, AreReordered}
+use Rattle.framehop_memory.specs.Range.{available, has_available, start_of, AreApart, AreReordered}
 
 -- a number of a range that passes a test, and 0 of another
 abbrev pub passing : (MemoryRange → Bool) → (MemoryRange → ℕ) → MemoryRange → ℕ
@@ -45,6 +45,23 @@ sum-none p g (r ∷ ranges) fails =
 
 find-later : (p : MemoryRange → Bool) (r : MemoryRange) (ranges : List MemoryRange) → p r ≡ false → find p (r ∷ ranges) ≡ find p ranges
 find-later p r ranges fails = rw fails refl
+
+-- what is found passes
+pub find-passes : (p : MemoryRange → Bool) (ranges : List MemoryRange) → IfSome (find p ranges) (λ range. p range ≡ true)
+find-passes p [] = tt
+find-passes p (r ∷ ranges) = elim (cases_Bool (p r)) [
+  | inl passes ↦ rw passes passes
+  | inr fails ↦ rw fails (find-passes p ranges)
+]
+
+-- one passes, so there is a first
+some-at : (p : MemoryRange → Bool) (ranges : List MemoryRange) (place : ℕ) (e : MemoryRange) → place < length ranges → p (slice_index_or ranges place e) ≡ true → is_some (find p ranges) ≡ true
+some-at p [] place e within passes = absurd (omega (arith, within))
+some-at p (r ∷ ranges) zero e within passes = rw passes refl
+some-at p (r ∷ ranges) (suc place) e within passes = elim (cases_Bool (p r)) [
+  | inl here ↦ rw here refl
+  | inr fails ↦ rw fails (some-at p ranges place e (omega (arith, within)) passes)
+]
 
 -- one alone passes
 pub find-only : (p : MemoryRange → Bool) (ranges : List MemoryRange) (place : ℕ) (e : MemoryRange) → place < length ranges → p (slice_index_or ranges place e) ≡ true → ((k : ℕ) (d : MemoryRange) → k < length ranges → k < place → p (slice_index_or ranges k d) ≡ false) → find p ranges ≡ Some (slice_index_or ranges place e)
@@ -100,15 +117,33 @@ find-reordered p ranges others same few =
           a.1 ∙ ap (λ r. Some r) (range-same a.0 b.0 (equal (λ r. r.start)) (equal (λ r. r.size)) (equal (λ r. r.offset))) ∙ sym b.1
     ]
 
--- the bytes that a range has are within it
-dumped-few : (file : List ℕ) (range : MemoryRange) → length (dumped file range) ≤ range.size
-dumped-few file range = let all = length-take range.size (drop range.offset file) in omega (arith, all)
+-- some range passes if their number says so, so in any order
+some-counted : (p : MemoryRange → Bool) (ranges : List MemoryRange) → is_some (find p ranges) ≡ nat_lt 0 (count p ranges)
+some-counted p [] = refl
+some-counted p (r ∷ ranges) = elim (cases_Bool (p r)) [
+  | inl passes ↦
+      let more = sum-more p (λ range. 1) r ranges passes in
+      let counted : nat_lt 0 (count p (r ∷ ranges)) ≡ true = grind (arith, nat_tests) in
+      let found : is_some (find p (r ∷ ranges)) ≡ true = rw passes refl in
+      found ∙ sym counted
+  | inr fails ↦ ap is_some (find-later p r ranges fails) ∙ some-counted p ranges ∙ ap (nat_lt 0) (sym (sum-later p (λ range. 1) r ranges fails))
+]
 
-pub has-within : (file : List ℕ) (address size : ℕ) (range : MemoryRange) → has file address size range ≡ true → (range.start ≤ address) × (address + size ≤ range.start + range.size)
-has-within file address size range passes = let few = dumped-few file range in (grind (arith, nat_tests), grind (arith, nat_tests))
+pub some-reordered : (p : MemoryRange → Bool) (ranges others : List MemoryRange) → AreReordered ranges others → is_some (find p ranges) ≡ is_some (find p others)
+some-reordered p ranges others same =
+    some-counted p ranges ∙ ap (nat_lt 0) (sym (same (passing p (λ range. 1)))) ∙ sym (some-counted p others)
 
-pub covers-within : (address : ℕ) (range : MemoryRange) → covers address range ≡ true → (range.start ≤ address) × (address + 1 ≤ range.start + range.size)
-covers-within address range passes = (grind (arith, nat_tests), grind (arith, nat_tests))
+-- no more bytes of a range count than it has
+available-few : (file_size : Option ℕ) (range : MemoryRange) → available file_size range ≤ range.size
+available-few None range = omega arith
+available-few (Some file_size) range = omega arith
+
+has-within : (file_size : Option ℕ) (address size : ℕ) (range : MemoryRange) → has_available file_size address size range ≡ true → (range.start ≤ address) × (address + size ≤ range.start + range.size)
+has-within file_size address size range passes = let few = available-few file_size range in (grind (arith, nat_tests), grind (arith, nat_tests))
+
+-- a range has no bytes from its start on
+has-none : (file_size : Option ℕ) (address size : ℕ) (range : MemoryRange) → range.start ≡ address → size ≡ 0 → has_available file_size address size range ≡ true
+has-none file_size address size range begins none = grind (arith, nat_tests)
 
 -- where a range begins, in the list of starts
 start-at : (ranges : List MemoryRange) (i : ℕ) (d : MemoryRange) → i < length ranges → slice_index (map start_of ranges) i ≡ (slice_index_or ranges i d).start
@@ -124,75 +159,92 @@ starts-rise ranges i j d apart below within =
       | inr (inr over) ↦ absurd (omega (arith, over, below))
     ]
 
--- a test that only ranges pass in which so many addresses are from one on
-module _ (p : MemoryRange → Bool) (address size : ℕ) (some : 0 < size) (within : (range : MemoryRange) → p range ≡ true → (range.start ≤ address) × (address + size ≤ range.start + range.size)) where
-  ends-below : (range : MemoryRange) → range.start + range.size ≤ address → p range ≡ false
-  ends-below range ends = elim (cases_Bool (p range)) [
-    | inl passes ↦ absurd (let h = (within range passes).1 in omega (arith, h, ends, some))
+module _ (file_size : Option ℕ) (address size : ℕ) where
+  abbrev passes-at : MemoryRange → Bool
+  passes-at range = has_available file_size address size range
+
+  begins-above : (range : MemoryRange) → address < range.start → passes-at range ≡ false
+  begins-above range begins = elim (cases_Bool (passes-at range)) [
+    | inl passes ↦ absurd (let h = (has-within file_size address size range passes).0 in omega (arith, h, begins))
     | inr fails ↦ fails
   ]
 
-  begins-above : (range : MemoryRange) → address < range.start → p range ≡ false
-  begins-above range begins = elim (cases_Bool (p range)) [
-    | inl passes ↦ absurd (let h = (within range passes).0 in omega (arith, h, begins))
+  ends-below : (range : MemoryRange) → 0 < size → range.start + range.size ≤ address → passes-at range ≡ false
+  ends-below range some ends = elim (cases_Bool (passes-at range)) [
+    | inl passes ↦ absurd (let h = (has-within file_size address size range passes).1 in omega (arith, h, ends, some))
     | inr fails ↦ fails
   ]
 
   -- of ranges that are apart at most one passes
-  count-apart : (ranges : List MemoryRange) → AreApart ranges → count p ranges ≤ 1
-  count-apart [] apart = omega arith
-  count-apart (r ∷ ranges) apart =
+  count-apart : (ranges : List MemoryRange) → 0 < size → AreApart ranges → count passes-at ranges ≤ 1
+  count-apart [] some apart = omega arith
+  count-apart (r ∷ ranges) some apart =
       let later : AreApart ranges = λ i j d h inside. apart (suc i) (suc j) d (omega (arith, h)) (omega (arith, inside)) in
-      elim (cases_Bool (p r)) [
+      elim (cases_Bool (passes-at r)) [
         | inl passes ↦
-            let ends = (within r passes).1 in
-            let none = sum-none p (λ range. 1) ranges (λ k d h.
+            let ends = (has-within file_size address size r passes).1 in
+            let none = sum-none passes-at (λ range. 1) ranges (λ k d h.
             let after = apart 0 (suc k) d (omega arith) (omega (arith, h)) in
             begins-above (slice_index_or ranges k d) (omega (arith, after, ends, some))) in
-            let all = sum-more p (λ range. 1) r ranges passes in
+            let all = sum-more passes-at (λ range. 1) r ranges passes in
             omega (arith, none, all)
         | inr fails ↦
-            let rest = count-apart ranges later in
-            let all = sum-later p (λ range. 1) r ranges fails in
+            let rest = count-apart ranges some later in
+            let all = sum-later passes-at (λ range. 1) r ranges fails in
             omega (arith, rest, all)
       ]
 
   -- so the first that passes is the same in another order
-  pub find-apart : (ranges others : List MemoryRange) → AreReordered ranges others → AreApart others → find p ranges ≡ find p others
-  find-apart ranges others same apart = find-reordered p ranges others same (count-apart others apart)
+  pub find-apart : (ranges others : List MemoryRange) → 0 < size → AreReordered ranges others → AreApart others → find passes-at ranges ≡ find passes-at others
+  find-apart ranges others some same apart = find-reordered passes-at ranges others same (count-apart others some apart)
 
-  -- the range that halving reaches is the only one that can pass
-  elsewhere : (ranges : List MemoryRange) (place : ℕ) → AreApart ranges → IsPlace (map start_of ranges) address place → (k : ℕ) (d : MemoryRange) → k < length ranges → k ≢ place → p (slice_index_or ranges k d) ≡ false
-  elsewhere ranges place apart is k d inside other =
+  -- none passes after the range that halving reaches
+  above : (ranges : List MemoryRange) (place : ℕ) → AreApart ranges → IsPlace (map start_of ranges) address place → (k : ℕ) (d : MemoryRange) → k < length ranges → place < k → passes-at (slice_index_or ranges k d) ≡ false
+  above ranges place apart is k d inside over =
       let all = length-map ranges start_of in
-      elim (cases_order k place) [
-        | inl same ↦ absurd (other same)
-        | inr (inl under) ↦
-            let ends = apart k place d under (omega (arith, all, is.within)) in
-            let below = is.below (omega (arith, under)) in
-            let start = start-at ranges place d (omega (arith, all, is.within)) in
-            ends-below (slice_index_or ranges k d) (omega (arith, ends, below, start))
-        | inr (inr over) ↦
-            let next : place + 1 < length ranges = omega (arith, over, inside) in
-            let above = is.above (omega (arith, all, next)) in
-            let start = start-at ranges (place + 1) d next in
-            let rises = starts-rise ranges (place + 1) k d apart (omega (arith, over)) inside in
-            begins-above (slice_index_or ranges k d) (omega (arith, above, start, rises))
-      ]
+      let next : place + 1 < length ranges = omega (arith, over, inside) in
+      let later = is.above (omega (arith, all, next)) in
+      let start = start-at ranges (place + 1) d next in
+      let rises = starts-rise ranges (place + 1) k d apart (omega (arith, over)) inside in
+      begins-above (slice_index_or ranges k d) (omega (arith, later, start, rises))
 
-  -- so it is the first that passes, if it passes, and else none does
-  pub place-passes : (ranges : List MemoryRange) (place : ℕ) (e : MemoryRange) → AreApart ranges → IsPlace (map start_of ranges) address place → p (slice_index_or ranges place e) ≡ true → find p ranges ≡ Some (slice_index_or ranges place e)
-  place-passes ranges place e apart is passes =
-      find-only p ranges place e (let all = length-map ranges start_of in omega (arith, all, is.within)) passes
-      (λ k d inside below. elsewhere ranges place apart is k d inside (λ same. omega (arith, same, below)))
+  -- those before it end before it begins
+  below : (ranges : List MemoryRange) (place : ℕ) → AreApart ranges → IsPlace (map start_of ranges) address place → (k : ℕ) (d : MemoryRange) → k < place
+      → ((slice_index_or ranges k d).start + (slice_index_or ranges k d).size ≤ (slice_index_or ranges place d).start) × ((slice_index_or ranges place d).start ≤ address)
+  below ranges place apart is k d under =
+      let all = length-map ranges start_of in
+      let inside : place < length ranges = omega (arith, all, is.within) in
+      let start = start-at ranges place d inside in
+      let before = is.below (omega (arith, under)) in
+      (apart k place d under inside, omega (arith, before, start))
 
-  pub place-fails : (ranges : List MemoryRange) (place : ℕ) (e : MemoryRange) → AreApart ranges → IsPlace (map start_of ranges) address place → p (slice_index_or ranges place e) ≡ false → find p ranges ≡ None
+  -- so it is the first that passes, if it passes
+  pub place-passes : (ranges : List MemoryRange) (place : ℕ) (e : MemoryRange) → 0 < size → AreApart ranges → IsPlace (map start_of ranges) address place → passes-at (slice_index_or ranges place e) ≡ true → find passes-at ranges ≡ Some (slice_index_or ranges place e)
+  place-passes ranges place e some apart is passes =
+      find-only passes-at ranges place e (let all = length-map ranges start_of in omega (arith, all, is.within)) passes
+      (λ k d inside under. let ends = below ranges place apart is k d under in ends-below (slice_index_or ranges k d) some (omega (arith, ends.0, ends.1)))
+
+  -- and some range passes, though it may have no bytes
+  pub place-some : (ranges : List MemoryRange) (place : ℕ) (e : MemoryRange) → IsPlace (map start_of ranges) address place → passes-at (slice_index_or ranges place e) ≡ true → is_some (find passes-at ranges) ≡ true
+  place-some ranges place e is passes = some-at passes-at ranges place e (let all = length-map ranges start_of in omega (arith, all, is.within)) passes
+
+  -- and if it doesn't, none does
+  pub place-fails : (ranges : List MemoryRange) (place : ℕ) (e : MemoryRange) → AreApart ranges → IsPlace (map start_of ranges) address place → passes-at (slice_index_or ranges place e) ≡ false → find passes-at ranges ≡ None
   place-fails ranges place e apart is fails =
       let all = length-map ranges start_of in
-      find-none p ranges (λ k d inside. elim (cases_order k place) [
-        | inl same ↦ rw same (rw (get_or_default ranges place d e (omega (arith, all, is.within))) fails)
-        | inr (inl under) ↦ elsewhere ranges place apart is k d inside (λ same. omega (arith, same, under))
-        | inr (inr over) ↦ elsewhere ranges place apart is k d inside (λ same. omega (arith, same, over))
+      let at : place < length ranges = omega (arith, all, is.within) in
+      find-none passes-at ranges (λ k d inside. elim (cases_order k place) [
+        | inl same ↦ rw same (rw (get_or_default ranges place d e at) fails)
+        | inr (inl under) ↦ elim (cases_Bool (passes-at (slice_index_or ranges k d))) [
+          | inl passes ↦
+              let ends = below ranges place apart is k d under in
+              let within = (has-within file_size address size (slice_index_or ranges k d) passes).1 in
+              let there = has-none file_size address size (slice_index_or ranges place d) (omega (arith, ends.0, ends.1, within)) (omega (arith, ends.0, ends.1, within)) in
+              let here : passes-at (slice_index_or ranges place d) ≡ false = rw (get_or_default ranges place d e at) fails in
+              absurd (cc)
+          | inr none ↦ none
+        ]
+        | inr (inr over) ↦ above ranges place apart is k d inside over
       ])
 
 -- one more range is apart from those before it

@@ -6,3 +6,6 @@ pub mod Memory
 pub mod Parts
 pub mod Segment
 pub mod Code
+pub mod Stairs
+pub mod SizedRange
+pub mod RangeTree

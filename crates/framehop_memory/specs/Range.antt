@@ -1,5 +1,5 @@
 -- Ranges of memory, each of which begins at an address and at an offset of a file.
-use Rattle.std.specs.Prelude.{◌≡◌, ℕ, ◌+◌, ◌<◌, ◌≤◌, List, length, take, drop, Bool, ◌&&◌, nat_le, nat_lt, sum_by, slice_index_or}
+use Rattle.std.specs.Prelude.{◌≡◌, ℕ, ◌+◌, ◌-◌, ◌<◌, ◌≤◌, List, length, take, drop, min, Option, Some, None, Bool, ◌&&◌, nat_le, sum_by, slice_index_or}
 use Rattle.framehop_memory.specs.declared.memory.MemoryRange.{MemoryRange}
 
 -- the bytes of a range that the file has: fewer where the file is cut off
@@ -11,9 +11,15 @@ abbrev pub has : List ℕ → ℕ → ℕ → MemoryRange → Bool
 has file address size range =
     nat_le range.start address && nat_le (address + size) (range.start + length (dumped file range))
 
--- an address is in a range, whether or not the file has the bytes
-abbrev pub covers : ℕ → MemoryRange → Bool
-covers address range = nat_le range.start address && nat_lt address (range.start + range.size)
+-- how many bytes of a range count: of a file of so many bytes those that it has, and else all
+abbrev pub available : Option ℕ → MemoryRange → ℕ
+available None range = range.size
+available (Some file_size) range = min range.size (file_size - range.offset)
+
+-- as many from an address on
+abbrev pub has_available : Option ℕ → ℕ → ℕ → MemoryRange → Bool
+has_available file_size address size range =
+    nat_le range.start address && nat_le (address + size) (range.start + available file_size range)
 
 -- where a range begins
 abbrev pub start_of : MemoryRange → ℕ

@@ -1,6 +1,6 @@
 //! Which memory may be executed, asked by address.
 ghost use Rattle.std.specs.Prelude.{◌≡◌, ℕ, IfOk, is_some, find};
-ghost use Rattle.framehop_memory.specs.Range.{covers};
+ghost use Rattle.framehop_memory.specs.Range.{has_available};
 ghost use Rattle.framehop_memory.specs.Code.{has_code, is_code, is_code_in, range_of, code_ranges};
 
 use crate::memory::MemoryRange;
@@ -15,17 +15,16 @@ pub struct CodeSegments {
     segments: Vec<Segment>,
     /// Where those are that may be executed.
     code: MemoryRanges,
-    ghost same: { (address : ℕ) → is_some (find (covers address) code.listed.items) ≡ is_code_in segments.items address },
+    ghost same: { (address : ℕ) → is_some (find (has_available code.file_size address 1) code.listed.items) ≡ is_code_in segments.items address },
 }
 
 impl CodeSegments {
-    /// Returns these segments, whose addresses are AVMAs. Where none that may be executed overlap, an address is looked for
-    /// by halving, and else segment by segment.
+    /// Returns these segments, whose addresses are AVMAs. An address is looked for by halving.
     pub fn new(alloc: Global, segments: Vec<Segment>) -> Result<Self, AllocError>
         ensures { IfOk result (λ code. code.segments.items ≡ segments.items) }
     {
         let ranges = code_ranges(alloc, segments.as_slice())?;
-        let code = MemoryRanges::new(alloc, ranges)?;
+        let code = MemoryRanges::new(alloc, ranges, None)?;
         Ok(CodeSegments { segments, code })
     }
 
@@ -40,7 +39,7 @@ impl CodeSegments {
     pub fn is_code_at(&self, address: u64) -> bool
         ensures { result ≡ is_code_in self.now.segments.items address }
     {
-        self.code.first_at(address).is_some()
+        self.code.first_with(address, 1).is_some()
     }
 }
 

@@ -5,5 +5,7 @@
 pub mod code;
 pub mod left_out;
 pub mod memory;
+mod range_tree;
 mod ranges;
 pub mod segment;
+mod stairs;

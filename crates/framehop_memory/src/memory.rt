@@ -1,8 +1,5 @@
 //! The memory of a process that is gone, as far as a file has it.
-ghost use Rattle.std.specs.Prelude.{◌≡◌, ◌<◌, ℕ, List, true, false, IfOk, IfSome, find, map, option_map, length};
-ghost use Rattle.framehop_memory.specs.Parts.{read_range, whole_memory, is_left_out, AreReadFrom};
-ghost use Rattle.framehop_memory.specs.Range.{has};
-ghost use Rattle.framehop_memory.specs.Memory.{memory_view, bytes_of, bytes_after, word_of};
+ghost use Rattle.std.specs.Prelude.{◌≡◌, ◌<◌, ℕ, List, true, false, IfOk, IfSome, is_some, find, map, Some, option_map, length};
 
 use crate::left_out::{LeftOut, ReadPart};
 use crate::ranges::{MemoryRanges, dumped};
@@ -29,15 +26,20 @@ pub struct ProcessMemory<'a> {
     ranges: MemoryRanges,
     /// What the file has beside them, where it was not read whole.
     left_out: Option<&'a LeftOut>,
+    ghost sized: { ranges.file_size ≡ Some (length file.now) },
 }
 
 impl<'a> ProcessMemory<'a> {
-    /// Returns the memory of which a file has these ranges. Where they overlap, the first has the bytes. Memory is looked
-    /// for by halving where none overlap, as in the files that systems write, and else range by range.
+    ghost use Rattle.framehop_memory.specs.Parts.{read_range, whole_memory, is_left_out, AreReadFrom};
+    ghost use Rattle.framehop_memory.specs.Range.{has};
+    ghost use Rattle.framehop_memory.specs.Memory.{memory_view, bytes_of, bytes_after, word_of};
+
+    /// Returns the memory of which a file has these ranges. Where they overlap, the first has the bytes. An address
+    /// is looked for by halving.
     pub fn new(alloc: Global, file: &'a [u8], ranges: Vec<MemoryRange>) -> Result<Self, AllocError>
         ensures { IfOk result (λ memory. memory_view memory ≡ record { file = file.entry.now; ranges = ranges.items }) }
     {
-        let ranges = MemoryRanges::new(alloc, ranges)?;
+        let ranges = MemoryRanges::new(alloc, ranges, Some(file.len() as u64))?;
         Ok(ProcessMemory {
             file,
             ranges,
@@ -62,7 +64,7 @@ impl<'a> ProcessMemory<'a> {
             → bytes_after (memory_view memory) address ≡ bytes_after (whole_memory file parts.now) address) }
     {
         let ranges = read_ranges(alloc, parts)?;
-        let ranges = MemoryRanges::new(alloc, ranges)?;
+        let ranges = MemoryRanges::new(alloc, ranges, Some(bytes.len() as u64))?;
         Ok(ProcessMemory {
             file: bytes,
             ranges,
@@ -106,13 +108,14 @@ impl<'a> ProcessMemory<'a> {
         Some(front(bytes, size as usize))
     }
 
-    /// Returns the first range that has so many bytes from an address on. Where none has, notes that the address was
-    /// asked for.
+    /// Returns the first range that has so many bytes from an address on, and of no bytes one of those that do. Where none
+    /// has, notes that the address was asked for.
     fn range_with(&self, address: u64, size: u64) -> Option<MemoryRange>
-        ensures first { result ≡ find (has self.now.file.now address size) (memory_view self.now).ranges }
+        ensures first { 0 < size → result ≡ find (has self.now.file.now address size) (memory_view self.now).ranges }
+        ensures some { is_some result ≡ is_some (find (has self.now.file.now address size) (memory_view self.now).ranges) }
         ensures found { IfSome result (λ range. has self.now.file.now address size range ≡ true) }
     {
-        let found = self.ranges.first_with(self.file, address, size);
+        let found = self.ranges.first_with(address, size);
         if found.is_none() {
             self.note(address);
         }
@@ -130,7 +133,7 @@ impl<'a> ProcessMemory<'a> {
 
 /// Returns where the parts are that were read.
 fn read_ranges(alloc: Global, parts: &[ReadPart]) -> Result<Vec<MemoryRange>, AllocError>
-    ensures { IfOk result (λ ranges. ranges.items ≡ map read_range parts.now) }
+    ensures { IfOk result (λ ranges. ranges.items ≡ map (λ part. part.read) parts.now) }
 {
     parts.iter().map(|part| part.read).collect(alloc)
 }

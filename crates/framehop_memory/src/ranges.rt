@@ -1,23 +1,38 @@
-//! Ranges of memory, of which the first that has an address is found by halving.
-ghost use Rattle.std.specs.Prelude.{◌≡◌, ◌<◌, ◌↔◌, true, IfOk, IfSome, find, length, map};
-ghost use Rattle.framehop_memory.specs.Range.{dumped, has, covers, start_of, AreApart, AreReordered};
+//! Ranges of memory, of which the first that has some bytes is found by halving.
+ghost use Rattle.std.specs.Prelude.{◌≡◌, ◌<◌, ◌↔◌, ℕ, List, true, IfOk, IfSome, Vec, is_some, find, length, map};
+ghost use Rattle.std.specs.Global.{Global};
+ghost use Rattle.framehop_memory.specs.Range.{dumped, available, has_available, start_of, AreApart, AreReordered};
+ghost use Rattle.framehop_memory.specs.SizedRange.{sized};
+ghost use Rattle.framehop_memory.specs.declared.memory.MemoryRange.{MemoryRange};
+ghost use Rattle.framehop_memory.specs.declared.range_tree.SizedRange.{SizedRange};
+ghost use Rattle.framehop_memory.specs.declared.ranges.Search.TheVariants.{Apart, Overlapping};
 
 use crate::memory::MemoryRange;
+use crate::range_tree::{RangeTree, SizedRange};
 use framehop_bytes::bytes::{back, front};
 use framehop_bytes::place::{Starts, place};
 use std::alloc::{AllocError, Global};
 
-/// Ranges of memory in the order of a file. Those of real files are apart: then an address is looked for by halving.
+/// Ranges of memory in the order of a file. An address is looked for by halving.
 #[derive(Drop)]
 pub(crate) struct MemoryRanges {
     /// In the order of the file. Where they overlap, the first has the bytes.
     pub(crate) listed: Vec<MemoryRange>,
-    /// The same in the order of their starts.
-    by_start: Vec<MemoryRange>,
-    /// Whether each of these ends before the next one begins.
-    are_apart: bool,
-    ghost same: { AreReordered listed.items by_start.items },
-    ghost apart: { are_apart ≡ true → AreApart by_start.items },
+    /// The size of the file, where only those bytes count that it has.
+    pub(crate) file_size: Option<u64>,
+    /// The same ranges, as they are searched.
+    search: Search,
+    ghost apart: { (ranges : Vec MemoryRange Global) → search ≡ Apart ranges → AreReordered listed.items ranges.items × AreApart ranges.items },
+    ghost overlapping: { (tree : List SizedRange) → search ≡ Overlapping tree → tree ≡ map (sized file_size) listed.items },
+}
+
+/// Ranges of memory as they are searched.
+#[derive(Drop)]
+enum Search {
+    /// Of ranges that don't overlap: in the order of their starts.
+    Apart(Vec<MemoryRange>),
+    /// Of others: a tree of them in the order of the file.
+    Overlapping(RangeTree),
 }
 
 /// The starts of ranges.
@@ -39,41 +54,58 @@ impl<'a> Starts for RangeStarts<'a> {
 }
 
 impl MemoryRanges {
-    /// Returns these ranges.
-    pub(crate) fn new(alloc: Global, listed: Vec<MemoryRange>) -> Result<Self, AllocError>
-        ensures { IfOk result (λ ranges. ranges.listed.items ≡ listed.items) }
+    /// Returns these ranges. With the size of a file only those bytes count that it has.
+    pub(crate) fn new(
+        alloc: Global,
+        listed: Vec<MemoryRange>,
+        file_size: Option<u64>,
+    ) -> Result<Self, AllocError>
+        ensures listed { IfOk result (λ ranges. ranges.listed.items ≡ listed.items) }
+        ensures size { IfOk result (λ ranges. ranges.file_size ≡ file_size) }
     {
-        let mut by_start = Vec::from_slice(alloc, listed.as_slice())?;
-        by_start.sort_by_key(|range| range.start)?;
-        let are_apart = are_apart(by_start.as_slice());
+        let search = Search::new(alloc, listed.as_slice(), file_size)?;
         Ok(MemoryRanges {
             listed,
-            by_start,
-            are_apart,
+            file_size,
+            search,
         })
     }
 
-    /// Returns the first range that has so many bytes from an address on.
-    pub(crate) fn first_with(&self, file: &[u8], address: u64, size: u64) -> Option<MemoryRange>
-        ensures first { result ≡ find (has file.now address size) self.now.listed.items }
-        ensures found { IfSome result (λ range. has file.now address size range ≡ true) }
+    /// Returns the first range that has so many bytes from an address on. Of no bytes it is one of those that do.
+    pub(crate) fn first_with(&self, address: u64, size: u64) -> Option<MemoryRange>
+        ensures first { 0 < size → result ≡ find (has_available self.now.file_size address size) self.now.listed.items }
+        ensures some { is_some result ≡ is_some (find (has_available self.now.file_size address size) self.now.listed.items) }
+        ensures found { IfSome result (λ range. has_available self.now.file_size address size range ≡ true) }
     {
-        let ranges = self.by_start.as_slice();
-        if !self.are_apart || size == 0 || ranges.is_empty() {
-            return first_of(self.listed.as_slice(), file, address, size);
+        match &self.search {
+            Search::Apart(ranges) => {
+                nearest_with(ranges.as_slice(), self.file_size, address, size)
+            }
+            Search::Overlapping(tree) => tree.first_with(address, size),
         }
-        nearest_with(ranges, file, address, size)
     }
+}
 
-    /// Returns the first range that an address is in, whether or not the file has the bytes.
-    pub(crate) fn first_at(&self, address: u64) -> Option<MemoryRange>
-        ensures { result ≡ find (covers address) self.now.listed.items }
+impl Search {
+    /// Returns these ranges. With the size of a file only those bytes count that it has.
+    fn new(
+        alloc: Global,
+        listed: &[MemoryRange],
+        file_size: Option<u64>,
+    ) -> Result<Self, AllocError>
+        ensures apart { IfOk result (λ search. (ranges : Vec MemoryRange Global) → search ≡ Apart ranges
+            → AreReordered listed.now ranges.items × AreApart ranges.items) }
+        ensures overlapping { IfOk result (λ search. (tree : List SizedRange) → search ≡ Overlapping tree
+            → tree ≡ map (sized file_size) listed.now) }
     {
-        let ranges = self.by_start.as_slice();
-        if !self.are_apart || ranges.is_empty() {
-            return first_covering(self.listed.as_slice(), address);
+        let mut by_start = Vec::from_slice(alloc, listed)?;
+        by_start.sort_by_key(|range| range.start)?;
+        if are_apart(by_start.as_slice()) {
+            return Ok(Search::Apart(by_start));
         }
-        nearest_covering(ranges, address)
+        drop(by_start);
+        let sized = sized_ranges(alloc, listed, file_size)?;
+        Ok(Search::Overlapping(RangeTree::new(alloc, sized.as_slice())?))
     }
 }
 
@@ -91,70 +123,63 @@ fn are_apart(ranges: &[MemoryRange]) -> bool
     true
 }
 
-/// Returns the first of the ranges that has so many bytes from an address on.
-fn first_of(ranges: &[MemoryRange], file: &[u8], address: u64, size: u64) -> Option<MemoryRange>
-    ensures first { result ≡ find (has file.now address size) ranges.now }
-    ensures found { IfSome result (λ range. has file.now address size range ≡ true) }
+/// Returns the ranges, with how many bytes of each count.
+fn sized_ranges(
+    alloc: Global,
+    ranges: &[MemoryRange],
+    file_size: Option<u64>,
+) -> Result<Vec<SizedRange>, AllocError>
+    ensures { IfOk result (λ all. all.items ≡ map (sized file_size) ranges.now) }
 {
     ranges
         .iter()
-        .find(|range| has(file, **range, address, size))
-        .copied()
+        .map(|range| SizedRange {
+            range: *range,
+            size: available(*range, file_size),
+        })
+        .collect(alloc)
 }
 
-/// Returns the range, of those that are apart, that has so many bytes from an address on.
-fn nearest_with(ranges: &[MemoryRange], file: &[u8], address: u64, size: u64) -> Option<MemoryRange>
-    requires some { 0 < length ranges.now }
-    requires size { 0 < size }
+/// Returns the range, of those that are apart, that has so many bytes from an address on. Of no bytes it is one of those
+/// that do.
+fn nearest_with(
+    ranges: &[MemoryRange],
+    file_size: Option<u64>,
+    address: u64,
+    size: u64,
+) -> Option<MemoryRange>
     requires apart { AreApart ranges.now }
-    ensures first { result ≡ find (has file.now address size) ranges.now }
-    ensures found { IfSome result (λ range. has file.now address size range ≡ true) }
+    ensures first { 0 < size → result ≡ find (has_available file_size address size) ranges.now }
+    ensures some { is_some result ≡ is_some (find (has_available file_size address size) ranges.now) }
+    ensures found { IfSome result (λ range. has_available file_size address size range ≡ true) }
 {
+    if ranges.is_empty() {
+        return None;
+    }
     let range = ranges[place(&RangeStarts { ranges }, address)];
-    if has(file, range, address, size) {
+    if has(range, file_size, address, size) {
         Some(range)
     } else {
         None
     }
-}
-
-/// Returns the first of the ranges that an address is in.
-fn first_covering(ranges: &[MemoryRange], address: u64) -> Option<MemoryRange>
-    ensures { result ≡ find (covers address) ranges.now }
-{
-    ranges
-        .iter()
-        .find(|range| covers(**range, address))
-        .copied()
-}
-
-/// Returns the range, of those that are apart, that an address is in.
-fn nearest_covering(ranges: &[MemoryRange], address: u64) -> Option<MemoryRange>
-    requires some { 0 < length ranges.now }
-    requires apart { AreApart ranges.now }
-    ensures { result ≡ find (covers address) ranges.now }
-{
-    let range = ranges[place(&RangeStarts { ranges }, address)];
-    if covers(range, address) {
-        Some(range)
-    } else {
-        None
-    }
-}
-
-/// Returns whether an address is in a range.
-fn covers(range: MemoryRange, address: u64) -> bool
-    ensures { result ≡ covers address range }
-{
-    range.start <= address && address - range.start < range.size
 }
 
 /// Returns whether a range has so many bytes from an address on.
-fn has(file: &[u8], range: MemoryRange, address: u64, size: u64) -> bool
-    ensures { result ≡ has file.now address size range }
+fn has(range: MemoryRange, file_size: Option<u64>, address: u64, size: u64) -> bool
+    ensures { result ≡ has_available file_size address size range }
 {
-    let available = dumped(file, range).len() as u64;
+    let available = available(range, file_size);
     range.start <= address && size <= available && address - range.start <= available - size
+}
+
+/// Returns how many bytes of a range count: where there is a file, as many as it has.
+fn available(range: MemoryRange, file_size: Option<u64>) -> u64
+    ensures { result ≡ available file_size range }
+{
+    match file_size {
+        Some(file_size) => range.size.min(file_size.saturating_sub(range.offset)),
+        None => range.size,
+    }
 }
 
 /// Returns the bytes of a range that the file has.
