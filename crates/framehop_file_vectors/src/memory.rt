@@ -89,6 +89,98 @@ fn takes_the_first_that_overlaps(rt: HostRuntime) -> Result<(), Fail> {
     Ok(())
 }
 
+/// Returns ranges of two words each, of which each begins with the second word of the one before it.
+fn stairs(alloc: Global, count: u64) -> Result<Vec<MemoryRange>, AllocError> {
+    let mut ranges = Vec::new(alloc);
+    for index in 0..count {
+        ranges.push(MemoryRange {
+            start: 0x1000u64.wrapping_add(index.wrapping_mul(8)),
+            size: 16,
+            offset: index.wrapping_mul(16),
+        })?;
+    }
+    Ok(ranges)
+}
+
+/// Whether memory has, of each but the first of so many stairs, the word where it begins from itself or from the one before
+/// it, and what lies across its words from itself.
+fn has_stairs(memory: &ProcessMemory<'_>, file: &[u8], count: u64, is_from_itself: bool) -> bool {
+    (1..count).all(|index| {
+        let start = 0x1000u64.wrapping_add(index.wrapping_mul(8));
+        let first = index.wrapping_mul(2);
+        let word = if is_from_itself {
+            first
+        } else {
+            first.wrapping_sub(1)
+        };
+        let across = (first as usize).wrapping_mul(8).wrapping_add(4);
+        memory.word_at(start) == Some(word)
+            && memory.bytes_at(start.wrapping_add(4), 8) == file.get(across..across.wrapping_add(8))
+            && memory.bytes_at(start.wrapping_add(4), 13).is_none()
+    })
+}
+
+#[test]
+fn finds_the_first_of_many_that_overlap(rt: HostRuntime) -> Result<(), Fail> {
+    for count in [2, 40, 1_000, MANY] {
+        let file = words(rt.alloc(), count.wrapping_mul(2))?;
+        let ranges = stairs(rt.alloc(), count)?;
+        let memory = ProcessMemory::new(rt.alloc(), file.as_slice(), ranges)?;
+        assert!(rt; has_stairs(&memory, file.as_slice(), count, false));
+        let mut ranges = stairs(rt.alloc(), count)?;
+        ranges.reverse();
+        let memory = ProcessMemory::new(rt.alloc(), file.as_slice(), ranges)?;
+        assert!(rt; has_stairs(&memory, file.as_slice(), count, true));
+    }
+    Ok(())
+}
+
+/// Of ranges that overlap and have few bytes of the file: where each begins, how many bytes it has, and its offset.
+const CUT_OFF: [(u64, u64, u64); 4] = [
+    (0x1000, 32, 16),
+    (0x1008, 24, 0),
+    (u64::MAX - 15, 32, 0),
+    (u64::MAX - 7, 16, 8),
+];
+
+/// An address, a number of bytes, and the offset of the file at which they are.
+const CUT_OFF_ROWS: [(u64, u64, Option<usize>); 12] = [
+    (0x1000, 16, Some(16)),
+    (0x1008, 8, Some(24)),
+    (0x1008, 9, Some(0)),
+    (0x1010, 8, Some(8)),
+    (0x1000, 17, None),
+    (0x1020, 0, Some(0)),
+    (0x1021, 0, None),
+    (0xfff, 0, None),
+    (u64::MAX - 7, 8, Some(8)),
+    (u64::MAX - 7, 24, Some(8)),
+    (u64::MAX, 17, Some(15)),
+    (u64::MAX, 18, None),
+];
+
+#[test]
+fn takes_what_the_file_has_of_ranges_that_overlap(rt: HostRuntime) -> Result<(), Fail> {
+    let file = words(rt.alloc(), 4)?;
+    let mut ranges = Vec::new(rt.alloc());
+    for (start, size, offset) in CUT_OFF {
+        ranges.push(MemoryRange {
+            start,
+            size,
+            offset,
+        })?;
+    }
+    let memory = ProcessMemory::new(rt.alloc(), file.as_slice(), ranges)?;
+    for (address, size, at) in CUT_OFF_ROWS {
+        let bytes = match at {
+            Some(at) => file.get(at..at.wrapping_add(size as usize)),
+            None => None,
+        };
+        assert_eq!(rt; memory.bytes_at(address, size), bytes);
+    }
+    Ok(())
+}
+
 /// Returns a segment of memory.
 fn segment(address: u64, size: u64, is_code: bool) -> Segment {
     Segment {
@@ -122,6 +214,23 @@ fn finds_code_among_many(rt: HostRuntime) -> Result<(), Fail> {
     });
     assert!(rt; all);
     assert_eq!(rt; code.segments().len() as u64, MANY);
+    Ok(())
+}
+
+#[test]
+fn finds_code_among_many_that_overlap(rt: HostRuntime) -> Result<(), Fail> {
+    let mut segments = segments_backwards(rt.alloc(), MANY)?;
+    segments.push(segment(start_of(0), 17, true))?;
+    let code = CodeSegments::new(rt.alloc(), segments)?;
+    let all = (1..MANY).all(|index| {
+        let start = start_of(index);
+        let is_code = index % 2 == 1;
+        code.is_code_at(start) == is_code
+            && code.is_code_at(start.wrapping_add(15)) == is_code
+            && !code.is_code_at(start.wrapping_add(16))
+    });
+    assert!(rt; all);
+    assert!(rt; code.is_code_at(start_of(0).wrapping_add(16)));
     Ok(())
 }
 

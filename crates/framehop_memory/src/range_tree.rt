@@ -8,7 +8,7 @@ use std::alloc::{AllocError, Global};
 use std::marker::Model;
 
 /// How many ranges are looked at one by one.
-const FEW: usize = 16;
+const FEW: usize = 32;
 
 /// A range of memory, and how many bytes of it there are.
 #[derive(Clone, Copy, Drop)]

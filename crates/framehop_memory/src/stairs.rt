@@ -15,8 +15,8 @@ pub(crate) struct Run {
     pub(crate) size: u64,
 }
 
-/// Runs of addresses in the order of their starts, each as long as one of those that begin at or before it is from there
-/// on: so they rise like stairs, and the last one that begins at or before an address reaches as far as any.
+/// Runs of addresses in the order of their starts, each at least as long as those before it are from its start on: so
+/// they rise like stairs, and the last one that begins at or before an address reaches as far as any.
 #[derive(Drop)]
 pub(crate) struct Stairs {
     runs: Vec<Run>,
@@ -61,7 +61,7 @@ impl Stairs {
     }
 }
 
-/// Makes each run as long as one of those before it is from its start on.
+/// Makes each run at least as long as those before it are from its start on.
 fn raise(runs: &mut [Run])
     requires { IsNonDecreasingBy (λ run. run.start) runs.old }
     ensures same { (address size : ℕ) → have_run runs.new address size ≡ have_run runs.old address size }
@@ -72,7 +72,7 @@ fn raise(runs: &mut [Run])
     }
 }
 
-/// Returns a run, made as long as one that begins at or before it is from there on.
+/// Returns a run, made at least as long as one that begins at or before it is from its start on.
 fn raised(run: Run, earlier: Run) -> Run
     requires { earlier.start ≤ run.start }
     ensures start { result.start ≡ run.start }
