@@ -93,7 +93,8 @@ impl<D: SectionBytes + Drop, A: Unwinding, P: AllocationPolicy> UnwinderInternal
     ) -> Result<Self, ModuleListError>
         ensures { IsMadeWith modules.items result generations.old generations.new }
     {
-        if generations.is_exhausted() {
+        let is_at_end = generations.is_exhausted();
+        if is_at_end {
             return Err(ModuleListError::GenerationsExhausted);
         }
         let Ok(modules) = ModuleList::of_modules(alloc, modules) else {

@@ -9,6 +9,7 @@ mod LinesLemmas
 mod KallsymsLemmas
 mod EndedLemmas
 mod SoFarLemmas
+mod NumberedLemmas
 mod PrintedLemmas
 pub mod ChoiceLemmas
 pub mod ChainLemmas

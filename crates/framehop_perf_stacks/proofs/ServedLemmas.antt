@@ -1,36 +1,31 @@
 -- What a walk keeps of the processes.
-use Rattle.std.proofs.Common.{◌≡◌, ◌⊎◌, inl, inr, ℕ, ◌<◌, ◌≤◌, Bool, true, false, cond, Option, Some, None, IfSome, arith, [], map, ap, sym, ◌∙◌}
-use Rattle.std.specs.Prelude.{unwrap_or, option_map}
+use Rattle.std.proofs.Common.{◌≡◌, ◌⊎◌, inl, inr, ℕ, ◌+◌, ◌<◌, ◌≤◌, Bool, true, false, cond, Option, Some, None, IfSome, List, arith, map, ap, ◌∙◌}
 use Rattle.std.specs.BTreeMap.{BTreeMap, get}
 use Rattle.std.specs.Ordering.{nat_cmp}
 use Rattle.framehop.specs.Modules.{ModuleView, UnwinderView}
 use Rattle.framehop.specs.Soundness.{AreApart}
-use Rattle.framehop_processes.specs.Process.{ProcessView}
+use Rattle.framehop_processes.specs.Process.{ProcessView, HasModules}
 use Rattle.framehop_processes.specs.declared.mapping.Mapping.{Mapping}
-use Rattle.framehop_perf_stacks.specs.Processes.{mapped_in, IsFit, IsServed}
+use Rattle.framehop_perf_stacks.specs.Processes.{IsFit, IsServed}
 
 -- an unwinder of a later generation is apart from one that was drawn
 pub later-apart : (unwinder later : UnwinderView) (next : ℕ) → unwinder.generation < next → next ≤ later.generation
     → AreApart unwinder later
 later-apart unwinder later next drawn at_least = λ same. absurd (omega (arith, same, drawn, at_least))
 
--- the mappings of a known process, and its modules
-mapped-known : (processes : BTreeMap ℕ ProcessView) (pid : ℕ) (process : ProcessView) → get nat_cmp processes pid ≡ Some process
-    → mapped_in processes pid ≡ process.mappings
-mapped-known processes pid process here =
-    ap (λ found. unwrap_or (option_map (λ (p : ProcessView). p.mappings) found) []) here
-
 pub fit-known : (module_of : Mapping → ModuleView) (is_sound : UnwinderView → Type 0) (processes : BTreeMap ℕ ProcessView)
     (next pid : ℕ) (process : ProcessView) → get nat_cmp processes pid ≡ Some process
     → IsServed module_of is_sound processes next → IsFit module_of is_sound processes next process
 fit-known module_of is_sound processes next pid process here served = rw here at (served.each pid)
 
+-- the modules of a known process are those of its mappings
 pub modules-known : (module_of : Mapping → ModuleView) (is_sound : UnwinderView → Type 0) (processes : BTreeMap ℕ ProcessView)
-    (next pid : ℕ) (process : ProcessView) → get nat_cmp processes pid ≡ Some process
-    → IsServed module_of is_sound processes next → process.unwinder.modules ≡ map module_of (mapped_in processes pid)
-modules-known module_of is_sound processes next pid process here served =
+    (next pid : ℕ) (process : ProcessView) (mappings : List Mapping) → process.mappings ≡ mappings
+    → get nat_cmp processes pid ≡ Some process
+    → IsServed module_of is_sound processes next → process.unwinder.modules ≡ map module_of mappings
+modules-known module_of is_sound processes next pid process mappings mapped here served =
     (fit-known module_of is_sound processes next pid process here served).modules
-    ∙ ap (map module_of) (sym (mapped-known processes pid process here))
+    ∙ ap (map module_of) mapped
 
 module _ (module_of : Mapping → ModuleView) (old new : UnwinderView → Type 0) (processes : BTreeMap ℕ ProcessView)
     (next : ℕ) (process : ProcessView)
@@ -58,6 +53,45 @@ module _ (module_of : Mapping → ModuleView) (old new : UnwinderView → Type 0
   pub served-after : (pid : ℕ) → get nat_cmp processes pid ≡ Some process → IsServed module_of old processes next
       → IsServed module_of new processes next
   served-after pid here served = after-walk (rw here at (served.each pid)) served
+
+-- ---- after others were drawn
+
+fit-later : (module_of : Mapping → ModuleView) (is_sound : UnwinderView → Type 0) (processes : BTreeMap ℕ ProcessView) (next after : ℕ)
+    → next ≤ after → (found : Option ProcessView) → IfSome found (IsFit module_of is_sound processes next)
+    → IfSome found (IsFit module_of is_sound processes after)
+fit-later module_of is_sound processes next after more (Some process) fit = record {
+  modules = fit.modules;
+  drawn = let low = fit.drawn in omega (arith, low, more);
+  sound = fit.sound;
+  apart = fit.apart;
+}
+fit-later module_of is_sound processes next after more None fit = fit
+
+pub served-later : (module_of : Mapping → ModuleView) (is_sound : UnwinderView → Type 0) (processes : BTreeMap ℕ ProcessView) (next after : ℕ)
+    → next ≤ after → IsServed module_of is_sound processes next → IsServed module_of is_sound processes after
+served-later module_of is_sound processes next after more served = record {
+  each = λ pid. fit-later module_of is_sound processes next after more (get nat_cmp processes pid) (served.each pid);
+  later = λ unwinder high. served.later unwinder (omega (arith, high, more));
+}
+
+-- ---- a process with a generation that was drawn for it
+
+apart-new : (module_of : Mapping → ModuleView) (is_sound : UnwinderView → Type 0) (processes : BTreeMap ℕ ProcessView) (next : ℕ)
+    (unwinder : UnwinderView) → next ≤ unwinder.generation → (found : Option ProcessView)
+    → IfSome found (IsFit module_of is_sound processes next) → IfSome found (λ other. AreApart unwinder other.unwinder)
+apart-new module_of is_sound processes next unwinder more (Some other) fit =
+    λ same. absurd (let low = fit.drawn in omega (arith, same, low, more))
+apart-new module_of is_sound processes next unwinder more None fit = tt
+
+pub fit-new : (module_of : Mapping → ModuleView) (is_sound : UnwinderView → Type 0) (processes : BTreeMap ℕ ProcessView) (next : ℕ)
+    (process : ProcessView) → HasModules module_of process → process.unwinder.generation ≡ next
+    → IsServed module_of is_sound processes next → IsFit module_of is_sound processes (next + 1) process
+fit-new module_of is_sound processes next process modules drawn served = record {
+  modules = modules;
+  drawn = omega (arith, drawn);
+  sound = served.later process.unwinder (omega (arith, drawn));
+  apart = λ pid. apart-new module_of is_sound processes next process.unwinder (omega (arith, drawn)) (get nat_cmp processes pid) (served.each pid);
+}
 
 -- ---- where a process is taken out
 

@@ -7,7 +7,7 @@ use Rattle.std.proofs.lemmas.List.{at_drop_more, take_more}
 use Rattle.std.proofs.lemmas.List.Sums.{sum_by_push, sum_by_more_le}
 use Rattle.std.specs.List.{count_by}
 use Rattle.framehop_perf_stacks.specs.Run.{is_sample, samples_in_kind}
-use Rattle.framehop_processes.specs.Process.{ProcessView}
+use Rattle.framehop_perf_stacks.specs.declared.processes.MappedProcess.{MappedProcess}
 use Rattle.framehop_recording.specs.Numbers.{PERF_RECORD_SAMPLE}
 use Rattle.framehop_recording.specs.declared.error.RecordingError.{RecordingError}
 use Rattle.framehop_perf_stacks.specs.Changes.{change_in}
@@ -30,7 +30,7 @@ use Rattle.framehop_perf_stacks.proofs.TakenLemmas.{Each-more, AreTaken-more, Ar
 -- before it have their texts, which were taken. None of the records before it is refused, and so many generations were drawn.
 pub record IsSoFar (files : Files) (IsText : RecordView × State → Told → Type 0) (frames : Bool) (all : List RecordView)
     (first : State) (old : Counts) (before : Option (List ℕ)) (undrawn : ℕ) (rest : List RecordView) (names : Names)
-    (processes : BTreeMap ℕ ProcessView) (new : Counts) (after : Option (List ℕ)) (drawn : ℕ) : Type 0 where
+    (processes : BTreeMap ℕ MappedProcess) (new : Counts) (after : Option (List ℕ)) (drawn : ℕ) : Type 0 where
   pub state : State
   pub told : List (RecordView × State)
   pub texts : List Told
@@ -48,7 +48,7 @@ module _ (files : Files) (IsText : RecordView × State → Told → Type 0)
     (same_text : (r : RecordView) (state other : State) → ((tid : ℕ) → state.named tid ≡ other.named tid)
     → ((pid : ℕ) → state.mapped pid ≡ other.mapped pid) → (text : Told) → IsText (r, state) text → IsText (r, other) text)
     (frames : Bool) (all : List RecordView) (first : State) (old : Counts) (before : Option (List ℕ)) (undrawn : ℕ)
-    (r : RecordView) (rest : List RecordView) (names names' : Names) (processes processes' : BTreeMap ℕ ProcessView)
+    (r : RecordView) (rest : List RecordView) (names names' : Names) (processes processes' : BTreeMap ℕ MappedProcess)
     (new new' : Counts) (after after' : Option (List ℕ)) (drawn drawn' : ℕ)
     (so : IsSoFar files IsText frames all first old before undrawn (r ∷ rest) names processes new after drawn)
     (none_refused : refusal_in r ≡ None) (draws : drawn' ≤ drawn + drawn_in (change_in files r) (mapped_in processes))
@@ -125,7 +125,7 @@ module _ (files : Files) (IsText : RecordView × State → Told → Type 0)
 -- where the next record is refused, what was told is of the samples before it
 module _ (files : Files) (IsText : RecordView × State → Told → Type 0) (frames : Bool) (all : List RecordView)
     (first : State) (old : Counts) (before : Option (List ℕ)) (undrawn : ℕ) (r : RecordView) (rest : List RecordView) (names : Names)
-    (processes : BTreeMap ℕ ProcessView) (new : Counts) (after : Option (List ℕ)) (drawn : ℕ)
+    (processes : BTreeMap ℕ MappedProcess) (new : Counts) (after : Option (List ℕ)) (drawn : ℕ)
     (so : IsSoFar files IsText frames all first old before undrawn (r ∷ rest) names processes new after drawn) where
   pub told-before : (refusal : RecordingError) → refusal_in r ≡ Some refusal → so.told ≡ samples_from files first (before_refusal all)
   told-before refusal is =

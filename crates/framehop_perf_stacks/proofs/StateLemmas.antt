@@ -131,7 +131,7 @@ module _ (r : RecordView) (maps : ((r.kind == PERF_RECORD_MMAP) || (r.kind == PE
   unfolding change_in
   change-none files = rw (maps, names, forks) refl
 
-  pub drawn-none : (files : Files) (mapped : Mapped) → drawn_in (change_in files r) mapped ≡ 1
+  pub drawn-none : (files : Files) (mapped : Mapped) → drawn_in (change_in files r) mapped ≡ 2
   drawn-none files mapped = ap (λ change. drawn_in change mapped) (change-none files)
 
   pub mapped-kept : (files : Files) (mapped : Mapped) (pid : ℕ) → mapped_by (change_in files r) mapped pid ≡ mapped pid

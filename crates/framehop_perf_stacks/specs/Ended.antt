@@ -38,17 +38,17 @@ abbrev pub before_refusal : List RecordView → List RecordView
 before_refusal [] = []
 before_refusal (r ∷ records) = if is_some (refusal_in r) then [] else r ∷ before_refusal records
 
--- how many generations a change draws at most: one for a process that begins, and one for each module that a mapping adds or
--- removes
+-- how many generations a change draws at most: one for the number of new mappings, and one for each module that a mapping adds
+-- or removes
 abbrev pub drawn_by : Change → Mapped → ℕ
 drawn_by (Map pid mapping) mapped = 1 + changed_modules mapping (mapped pid)
 drawn_by (Begin pid) mapped = 1
 drawn_by (Fork pid parent) mapped = 1
 
--- the same of a record: where it changes nothing, at most one for the process of a sample
+-- the same of a record: where it changes nothing, at most two for the process of a sample
 abbrev pub drawn_in : Result (Option Change) RecordingError → Mapped → ℕ
 drawn_in (Ok (Some change)) mapped = drawn_by change mapped
-drawn_in (Ok None) mapped = 1
+drawn_in (Ok None) mapped = 2
 drawn_in (Err refusal) mapped = 1
 
 -- a change maps no address

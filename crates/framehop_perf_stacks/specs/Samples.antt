@@ -11,7 +11,6 @@ use Rattle.framehop.specs.Modules.{ModuleView}
 use Rattle.framehop.specs.StackBytes.{memory_of_bytes}
 use Rattle.framehop_folded.specs.Folded.{entry_of, IsInOrderOfBytes}
 use Rattle.framehop_folded.specs.declared.folded.Folded.{Folded}
-use Rattle.framehop_processes.specs.Process.{ProcessView}
 use Rattle.framehop_processes.specs.declared.mapping.Mapping.{Mapping}
 use Rattle.framehop_recording.specs.Attributes.{AttributeView}
 use Rattle.framehop_recording.specs.Numbers.{PERF_RECORD_SAMPLE, PERF_RECORD_LOST}
@@ -47,6 +46,7 @@ use Rattle.framehop_perf_stacks.specs.declared.counts.Counts.{Counts}
 use Rattle.framehop_symbols.specs.declared.files.Files.{Files}
 use Rattle.framehop_frames.specs.declared.machine.Start.{Start}
 use Rattle.framehop_perf_stacks.specs.declared.names.Names.{Names}
+use Rattle.framehop_perf_stacks.specs.declared.processes.MappedProcess.{MappedProcess}
 use Rattle.framehop_perf_stacks.specs.declared.run.Options.{Options}
 
 -- what the records before a place lead to: the names of threads, and the mappings of processes
@@ -81,11 +81,11 @@ drawn_over files (r ∷ records) state =
     drawn_in (change_in files r) state.mapped + drawn_over files records (state_after files r state)
 
 -- that of the names and the processes that there are
-abbrev pub state_in : Names → BTreeMap ℕ ProcessView → State
+abbrev pub state_in : Names → BTreeMap ℕ MappedProcess → State
 state_in names processes = record { named = named_in names; mapped = mapped_in processes }
 
 -- they are those of a state
-pub record Agrees (names : Names) (processes : BTreeMap ℕ ProcessView) (state : State) : Type 0 where
+pub record Agrees (names : Names) (processes : BTreeMap ℕ MappedProcess) (state : State) : Type 0 where
   pub named : (tid : ℕ) → named_in names tid ≡ state.named tid
   pub mapped : (pid : ℕ) → mapped_in processes pid ≡ state.mapped pid
 

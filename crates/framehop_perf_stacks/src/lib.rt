@@ -22,6 +22,5 @@ pub mod recording;
 pub mod run;
 pub mod sample_source;
 pub mod sample_text;
-pub mod shared;
 pub mod stack;
 pub mod window;

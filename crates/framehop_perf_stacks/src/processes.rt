@@ -1,5 +1,5 @@
 //! The processes of a recording at a time.
-ghost use Rattle.std.specs.Prelude.{◌≡◌, ◌≢◌, ◌≤◌, ◌+◌, ◌⊎◌, ℕ, IfOk, IfErr, ◌==◌, if◌then◌else◌, [], Some, None, IsSome, IfSome, OnOk, option_map, option_copied, false};
+ghost use Rattle.std.specs.Prelude.{◌≡◌, ◌<◌, ◌≤◌, ◌+◌, ◌⊎◌, ℕ, IfOk, IfErr, ◌==◌, if◌then◌else◌, [], Some, None, IsSome, IfSome, OnOk, false};
 ghost use Rattle.std.specs.BTreeMap.{get};
 ghost use Rattle.std.specs.Ordering.{nat_cmp};
 ghost use Rattle.framehop.specs.Modules.{ModuleView, UnwinderView};
@@ -7,211 +7,153 @@ ghost use Rattle.framehop_processes.specs.Mappings.{IsInOrder, with_mapping, cha
 ghost use Rattle.framehop_processes.specs.Process.{HasModules};
 ghost use Rattle.framehop_processes.specs.declared.mapping.Mapping.{Mapping};
 ghost use Rattle.framehop_perf_stacks.specs.Ended.{drawn_by, IsWithoutAddress, MayEnd};
-ghost use Rattle.framehop_perf_stacks.specs.Processes.{mapped_in, with_process, after, IsFit, IsServed};
+ghost use Rattle.framehop_perf_stacks.specs.Processes.{mapped_in, ready_in, with_process, after, IsFit, IsServed, AreDrawn, HaveSame, HaveReady, AreEarlier};
 ghost use Rattle.framehop_perf_stacks.specs.declared.error.StacksError.TheVariants.{OutOfMemory, EmptyMapping};
 
 use crate::changes::Change;
 use crate::error::StacksError;
-use crate::shared::SharedProcess;
 use framehop::generations::Generations;
-use framehop_processes::{Mapping, ModuleMaker, Process, ProcessUnwinder};
-use std::alloc::Global;
+use framehop_processes::{Mapping, ModuleMaker, Process, ProcessUnwinder, SharedMappings};
+use std::alloc::{AllocError, Global};
 use std::collections::BTreeMap;
 
-/// The processes at a time.
+/// About how many mappings the processes may have together whose unwinders are kept: some 30 MB of modules.
+const MOST_READY: usize = 0x4_0000;
+
+/// The mappings of a process.
+#[derive(Drop)]
+pub struct MappedProcess {
+    /// Which mappings these are: a number that no others have. Forks have the same until one of them maps something.
+    number: u64,
+    mappings: SharedMappings,
+}
+
+/// What is taken of a process out of those that are known.
+#[derive(Drop)]
+struct Taken<U: ProcessUnwinder> {
+    mappings: SharedMappings,
+    process: Option<Process<U>>,
+}
+
+/// The processes at a time. Unwinders have only those whose samples came lately.
 #[derive(Drop)]
 pub struct Processes<U: ProcessUnwinder> {
-    by_pid: BTreeMap<u32, SharedProcess<U>>,
+    by_pid: BTreeMap<u32, MappedProcess>,
+    /// Processes with unwinders, by the numbers of their mappings.
+    ready: BTreeMap<u64, Process<U>>,
+    /// How many mappings these had together when they were made, and one more for each.
+    ready_mappings: usize,
+    /// The numbers of mappings are drawn from it, too.
     generations: Generations,
+    ghost drawn: { AreDrawn by_pid generations },
+    ghost same: { HaveSame by_pid },
+    ghost have_ready: { HaveReady by_pid ready },
+    ghost earlier: { AreEarlier ready generations },
+}
+
+impl Clone for MappedProcess {
+    ghost is_clone = { λ mapped copy. copy ≡ mapped };
+
+    fn clone(&self) -> Result<Self, AllocError> {
+        Ok(MappedProcess {
+            number: self.number,
+            mappings: self.mappings.clone()?,
+        })
+    }
 }
 
 impl<U: ProcessUnwinder> Processes<U> {
     /// Returns no processes.
     pub fn new(alloc: Global) -> Self
-        ensures empty { (pid : ℕ) → get nat_cmp result.by_pid pid ≡ None }
+        ensures empty { (number : ℕ) → get nat_cmp result.ready number ≡ None }
         ensures none { (pid : ℕ) → mapped_in result.by_pid pid ≡ [] }
         ensures undrawn { result.generations ≡ 0 }
     {
         Processes {
             by_pid: BTreeMap::new(alloc),
+            ready: BTreeMap::new(alloc),
+            ready_mappings: 0,
             generations: Generations::new(),
         }
     }
 
-    /// Returns the mappings of a process, in order of start: none where it is not known.
+    /// Returns the mappings of a process that is ready, in order of start.
     pub fn mappings(&self, pid: u32) -> &[Mapping]
+        requires { IsSome (ready_in self.now.by_pid self.now.ready pid) }
         ensures value { result.now ≡ mapped_in self.now.by_pid pid }
         ensures ordered { IsInOrder 0 result.now }
     {
-        match self.get(pid) {
-            Some(process) => process.mappings(),
-            None => &[],
-        }
+        self.known(pid).mappings()
     }
 
-    /// Returns the process of a number, if it is known.
-    pub fn get(&self, pid: u32) -> Option<&Process<U>>
-        ensures { option_copied result ≡ get nat_cmp self.now.by_pid pid }
-    {
-        match self.by_pid.get(&pid) {
-            Some(shared) => Some(shared.process()),
-            None => None,
-        }
-    }
-
-    /// Returns the process of a number that is known.
+    /// Returns the process of a number that is ready.
     pub fn known(&self, pid: u32) -> &Process<U>
-        requires { IsSome (get nat_cmp self.now.by_pid pid) }
-        ensures { get nat_cmp self.now.by_pid pid ≡ Some result.now }
+        requires { IsSome (ready_in self.now.by_pid self.now.ready pid) }
+        ensures known { (number : ℕ) × (get nat_cmp self.now.ready number ≡ Some result.now) }
+        ensures mapped { result.now.mappings ≡ mapped_in self.now.by_pid pid }
     {
-        match self.by_pid.get(&pid) {
-            Some(shared) => shared.process(),
+        let Some(mapped) = self.by_pid.get(&pid) else {
+            unreachable!()
+        };
+        match self.ready.get(&mapped.number) {
+            Some(process) => process,
             None => unreachable!(),
         }
     }
 
-    /// Stores a process, in the place of the one that has its number.
-    fn put(&mut self, pid: u32, process: SharedProcess<U>) -> Result<(), StacksError>
-        ensures known { OnOk result (IsSome (get nat_cmp self.new.by_pid pid)) }
-        ensures mapped { OnOk result ((number : ℕ) → mapped_in self.new.by_pid number ≡ with_process pid process.mappings (mapped_in self.old.by_pid) number) }
-        ensures served { OnOk result ((module_of : Mapping → ModuleView) (cache : U.Cache)
-            → IsServed module_of (λ view. U.is_sound view cache) self.old.by_pid self.old.generations
-            → IsFit module_of (λ view. U.is_sound view cache) self.old.by_pid self.old.generations process
-            → IsServed module_of (λ view. U.is_sound view cache) self.new.by_pid self.new.generations) }
-        ensures drawn { self.new.generations ≡ self.old.generations }
-        ensures refused { IfErr result (λ error. error ≡ OutOfMemory) }
-    {
-        self.by_pid.insert(pid, process)?;
-        Ok(())
-    }
-
-    /// Returns a process that is shared with another number, or one without mappings where it is not known.
-    fn copy_of(&mut self, alloc: Global, pid: u32) -> Result<SharedProcess<U>, StacksError>
-        ensures copied { IfOk result (λ process. process.mappings ≡ mapped_in self.old.by_pid pid) }
-        ensures kept { self.new.by_pid ≡ self.old.by_pid }
-        ensures served { OnOk result ((module_of : Mapping → ModuleView) (cache : U.Cache)
-            → IsServed module_of (λ view. U.is_sound view cache) self.old.by_pid self.old.generations
-            → IsServed module_of (λ view. U.is_sound view cache) self.new.by_pid self.new.generations) }
-        ensures fits { IfOk result (λ process. (module_of : Mapping → ModuleView) (cache : U.Cache)
-            → IsServed module_of (λ view. U.is_sound view cache) self.old.by_pid self.old.generations
-            → IsFit module_of (λ view. U.is_sound view cache) self.new.by_pid self.new.generations process) }
-        ensures drawn { self.new.generations ≤ self.old.generations + 1 }
-        ensures refused { IfErr result (MayEnd false None (self.old.generations + 1) 0) }
-    {
-        match self.by_pid.get(&pid) {
-            Some(process) => Ok(process.clone()?),
-            None => self.fresh(alloc),
-        }
-    }
-
-    /// Takes a process out of those that are known, or begins one without mappings where it is not.
-    fn take(&mut self, alloc: Global, pid: u32) -> Result<SharedProcess<U>, StacksError>
-        ensures taken { IfOk result (λ process. process.mappings ≡ mapped_in self.old.by_pid pid) }
-        ensures others { OnOk result ((number : ℕ) → number ≢ pid → get nat_cmp self.new.by_pid number ≡ get nat_cmp self.old.by_pid number) }
-        ensures served { OnOk result ((module_of : Mapping → ModuleView) (cache : U.Cache)
-            → IsServed module_of (λ view. U.is_sound view cache) self.old.by_pid self.old.generations
-            → IsServed module_of (λ view. U.is_sound view cache) self.new.by_pid self.new.generations) }
-        ensures fits { IfOk result (λ process. (module_of : Mapping → ModuleView) (cache : U.Cache)
-            → IsServed module_of (λ view. U.is_sound view cache) self.old.by_pid self.old.generations
-            → IsFit module_of (λ view. U.is_sound view cache) self.new.by_pid self.new.generations process) }
-        ensures drawn { self.new.generations ≤ self.old.generations + 1 }
-        ensures refused { IfErr result (MayEnd false None (self.old.generations + 1) 0) }
-    {
-        match self.by_pid.remove(&pid) {
-            Some(process) => Ok(process),
-            None => self.fresh(alloc),
-        }
-    }
-
-    /// Returns a process without mappings, of the next generation.
-    fn fresh(&mut self, alloc: Global) -> Result<SharedProcess<U>, StacksError>
-        ensures empty { IfOk result (λ process. process.mappings ≡ []) }
-        ensures kept { self.new.by_pid ≡ self.old.by_pid }
-        ensures served { OnOk result ((module_of : Mapping → ModuleView) (cache : U.Cache)
-            → IsServed module_of (λ view. U.is_sound view cache) self.old.by_pid self.old.generations
-            → IsServed module_of (λ view. U.is_sound view cache) self.new.by_pid self.new.generations) }
-        ensures fits { IfOk result (λ process. (module_of : Mapping → ModuleView) (cache : U.Cache)
-            → IsServed module_of (λ view. U.is_sound view cache) self.old.by_pid self.old.generations
-            → IsFit module_of (λ view. U.is_sound view cache) self.new.by_pid self.new.generations process) }
-        ensures drawn { self.new.generations ≤ self.old.generations + 1 }
-        ensures refused { IfErr result (MayEnd false None (self.old.generations + 1) 0) }
-    {
-        let process = Process::new(alloc, &mut self.generations)?;
-        Ok(SharedProcess::new(alloc, process)?)
-    }
-
-    /// Begins a process without mappings, in the place of the one that has its number.
-    pub fn begin(&mut self, alloc: Global, pid: u32) -> Result<(), StacksError>
-        ensures known { OnOk result (IsSome (get nat_cmp self.new.by_pid pid)) }
-        ensures mapped { OnOk result ((number : ℕ) → mapped_in self.new.by_pid number ≡ with_process pid [] (mapped_in self.old.by_pid) number) }
-        ensures served { OnOk result ((module_of : Mapping → ModuleView) (cache : U.Cache)
-            → IsServed module_of (λ view. U.is_sound view cache) self.old.by_pid self.old.generations
-            → IsServed module_of (λ view. U.is_sound view cache) self.new.by_pid self.new.generations) }
-        ensures drawn { self.new.generations ≤ self.old.generations + 1 }
-        ensures refused { IfErr result (MayEnd false None (self.old.generations + 1) 0) }
-    {
-        let process = self.fresh(alloc)?;
-        self.put(pid, process)?;
-        Ok(())
-    }
-
-    /// Makes a process known: one that is not known begins without mappings.
-    pub fn meet(&mut self, alloc: Global, pid: u32) -> Result<(), StacksError>
-        ensures known { OnOk result (IsSome (get nat_cmp self.new.by_pid pid)) }
-        ensures kept { OnOk result ((number : ℕ) → mapped_in self.new.by_pid number ≡ mapped_in self.old.by_pid number) }
-        ensures served { OnOk result ((module_of : Mapping → ModuleView) (cache : U.Cache)
-            → IsServed module_of (λ view. U.is_sound view cache) self.old.by_pid self.old.generations
-            → IsServed module_of (λ view. U.is_sound view cache) self.new.by_pid self.new.generations) }
-        ensures drawn { self.new.generations ≤ self.old.generations + 1 }
-        ensures refused { IfErr result (MayEnd false None (self.old.generations + 1) 0) }
-    {
-        if self.by_pid.contains_key(&pid) {
-            return Ok(());
-        }
-        self.begin(alloc, pid)?;
-        Ok(())
-    }
-
-    /// Begins a process as a copy of another: one without mappings where that one is not known.
-    fn fork(&mut self, alloc: Global, pid: u32, parent: u32) -> Result<(), StacksError>
-        ensures mapped { OnOk result ((number : ℕ) → mapped_in self.new.by_pid number ≡ with_process pid (mapped_in self.old.by_pid parent) (mapped_in self.old.by_pid) number) }
-        ensures served { OnOk result ((module_of : Mapping → ModuleView) (cache : U.Cache)
-            → IsServed module_of (λ view. U.is_sound view cache) self.old.by_pid self.old.generations
-            → IsServed module_of (λ view. U.is_sound view cache) self.new.by_pid self.new.generations) }
-        ensures drawn { self.new.generations ≤ self.old.generations + 1 }
-        ensures refused { IfErr result (MayEnd false None (self.old.generations + 1) 0) }
-    {
-        let process = self.copy_of(alloc, parent)?;
-        self.put(pid, process)?;
-        Ok(())
-    }
-
-    /// Maps a file into a process, which is copied first where others share it.
-    fn mapped<M: ModuleMaker<U>>(
+    /// Makes a process ready: one with the modules of its mappings is made, unless there is one. Where those that are ready
+    /// have too many mappings together, the others are ready no more.
+    pub fn make_ready<M: ModuleMaker<U>>(
         &mut self,
         alloc: Global,
         maker: &M,
-        process: SharedProcess<U>,
-        mapping: Mapping,
-    ) -> Result<SharedProcess<U>, StacksError>
+        pid: u32,
+    ) -> Result<(), StacksError>
     where
         U::Module: Drop,
-        requires { HasModules (M.module_of maker.now) process }
-        ensures mapped { IfOk result (λ after. after.mappings ≡ with_mapping mapping process.mappings) }
-        ensures kept { self.new.by_pid ≡ self.old.by_pid }
+        ensures ready { OnOk result (IsSome (ready_in self.new.by_pid self.new.ready pid)) }
+        ensures kept { OnOk result ((number : ℕ) → mapped_in self.new.by_pid number ≡ mapped_in self.old.by_pid number) }
         ensures served { OnOk result ((cache : U.Cache)
-            → IsServed (M.module_of maker.now) (λ view. U.is_sound view cache) self.old.by_pid self.old.generations
-            → IsServed (M.module_of maker.now) (λ view. U.is_sound view cache) self.new.by_pid self.new.generations) }
-        ensures fits { IfOk result (λ after. (cache : U.Cache)
-            → IsServed (M.module_of maker.now) (λ view. U.is_sound view cache) self.old.by_pid self.old.generations
-            → IsFit (M.module_of maker.now) (λ view. U.is_sound view cache) self.new.by_pid self.new.generations after) }
-        ensures drawn { OnOk result (self.new.generations ≡ self.old.generations + changed_modules mapping process.mappings) }
-        ensures refused { IfErr result (λ error. MayEnd false None (self.old.generations + changed_modules mapping process.mappings) 0 error
-            ⊎ ((error ≡ EmptyMapping) × (mapping.end ≤ mapping.start))) }
+            → IsServed (M.module_of maker.now) (λ view. U.is_sound view cache) self.old.ready self.old.generations
+            → IsServed (M.module_of maker.now) (λ view. U.is_sound view cache) self.new.ready self.new.generations) }
+        ensures drawn { self.new.generations ≤ self.old.generations + 2 }
+        ensures refused { IfErr result (MayEnd false None (self.old.generations + 2) 0) }
     {
-        let process = process.into_process()?;
-        let mapped = process.mapped(alloc, maker, mapping, &mut self.generations)?;
-        Ok(SharedProcess::new(alloc, mapped)?)
+        let mapped = self.met(alloc, pid)?;
+        if self.ready.contains_key(&mapped.number) {
+            return Ok(());
+        }
+        self.make_room(alloc, mapped.mappings.len());
+        let generations = &mut self.generations;
+        let process = Process::with_mappings(alloc, maker, &mapped.mappings, generations)?;
+        self.keep(pid, mapped.number, process)?;
+        Ok(())
+    }
+
+    /// Makes a change.
+    pub fn apply<M: ModuleMaker<U>>(
+        &mut self,
+        alloc: Global,
+        maker: &M,
+        change: Change,
+    ) -> Result<(), StacksError>
+    where
+        U::Module: Drop,
+        requires { (cache : U.Cache) × IsServed (M.module_of maker.now) (λ view. U.is_sound view cache) self.old.ready self.old.generations }
+        ensures mapped { OnOk result ((number : ℕ) → mapped_in self.new.by_pid number ≡ after change (mapped_in self.old.by_pid) number) }
+        ensures served { OnOk result ((cache : U.Cache)
+            → IsServed (M.module_of maker.now) (λ view. U.is_sound view cache) self.old.ready self.old.generations
+            → IsServed (M.module_of maker.now) (λ view. U.is_sound view cache) self.new.ready self.new.generations) }
+        ensures drawn { OnOk result (self.new.generations ≤ self.old.generations + drawn_by change (mapped_in self.old.by_pid)) }
+        ensures refused { IfErr result (λ error. MayEnd false None (self.old.generations + drawn_by change (mapped_in self.old.by_pid)) 0 error
+            ⊎ ((error ≡ EmptyMapping) × IsWithoutAddress change)) }
+    {
+        match change {
+            Change::Map { pid, mapping } => self.map(alloc, maker, pid, mapping)?,
+            Change::Begin { pid } => self.begin(alloc, pid)?,
+            Change::Fork { pid, parent } => self.fork(alloc, pid, parent)?,
+        }
+        Ok(())
     }
 
     /// Maps a file into a process, which begins with it if it is not known. After an error the process is not known any
@@ -225,44 +167,172 @@ impl<U: ProcessUnwinder> Processes<U> {
     ) -> Result<(), StacksError>
     where
         U::Module: Drop,
-        requires { (cache : U.Cache) × IsServed (M.module_of maker.now) (λ view. U.is_sound view cache) self.old.by_pid self.old.generations }
+        requires { (cache : U.Cache) × IsServed (M.module_of maker.now) (λ view. U.is_sound view cache) self.old.ready self.old.generations }
         ensures mapped { OnOk result ((number : ℕ) → mapped_in self.new.by_pid number ≡ with_process pid (with_mapping mapping (mapped_in self.old.by_pid pid)) (mapped_in self.old.by_pid) number) }
         ensures served { OnOk result ((cache : U.Cache)
-            → IsServed (M.module_of maker.now) (λ view. U.is_sound view cache) self.old.by_pid self.old.generations
-            → IsServed (M.module_of maker.now) (λ view. U.is_sound view cache) self.new.by_pid self.new.generations) }
+            → IsServed (M.module_of maker.now) (λ view. U.is_sound view cache) self.old.ready self.old.generations
+            → IsServed (M.module_of maker.now) (λ view. U.is_sound view cache) self.new.ready self.new.generations) }
         ensures drawn { OnOk result (self.new.generations ≤ self.old.generations + drawn_by (Change.Map pid mapping) (mapped_in self.old.by_pid)) }
         ensures refused { IfErr result (λ error. MayEnd false None (self.old.generations + drawn_by (Change.Map pid mapping) (mapped_in self.old.by_pid)) 0 error
             ⊎ ((error ≡ EmptyMapping) × (mapping.end ≤ mapping.start))) }
     {
-        let process = self.take(alloc, pid)?;
-        let process = self.mapped(alloc, maker, process, mapping)?;
-        self.put(pid, process)?;
+        if mapping.end <= mapping.start {
+            return Err(StacksError::EmptyMapping);
+        }
+        let Taken { mappings, process } = self.take(alloc, pid)?;
+        let number = self.put(pid, mappings.with_mapping(alloc, mapping)?)?;
+        if let Some(process) = process {
+            let process = self.mapped(alloc, maker, process, mapping)?;
+            self.keep(pid, number, process)?;
+        }
         Ok(())
     }
 
-    /// Makes a change.
-    pub fn apply<M: ModuleMaker<U>>(
+    /// Begins a process without mappings, in the place of the one that has its number.
+    fn begin(&mut self, alloc: Global, pid: u32) -> Result<(), StacksError>
+        ensures mapped { OnOk result ((number : ℕ) → mapped_in self.new.by_pid number ≡ with_process pid [] (mapped_in self.old.by_pid) number) }
+        ensures served { OnOk result ((module_of : Mapping → ModuleView) (cache : U.Cache)
+            → IsServed module_of (λ view. U.is_sound view cache) self.old.ready self.old.generations
+            → IsServed module_of (λ view. U.is_sound view cache) self.new.ready self.new.generations) }
+        ensures drawn { self.new.generations ≤ self.old.generations + 1 }
+        ensures refused { IfErr result (MayEnd false None (self.old.generations + 1) 0) }
+    {
+        self.take(alloc, pid)?;
+        self.put(pid, SharedMappings::new(alloc)?)?;
+        Ok(())
+    }
+
+    /// Begins a process with the mappings of another: without any where that one is not known.
+    fn fork(&mut self, alloc: Global, pid: u32, parent: u32) -> Result<(), StacksError>
+        ensures mapped { OnOk result ((number : ℕ) → mapped_in self.new.by_pid number ≡ with_process pid (mapped_in self.old.by_pid parent) (mapped_in self.old.by_pid) number) }
+        ensures served { OnOk result ((module_of : Mapping → ModuleView) (cache : U.Cache)
+            → IsServed module_of (λ view. U.is_sound view cache) self.old.ready self.old.generations
+            → IsServed module_of (λ view. U.is_sound view cache) self.new.ready self.new.generations) }
+        ensures drawn { self.new.generations ≤ self.old.generations + 1 }
+        ensures refused { IfErr result (MayEnd false None (self.old.generations + 1) 0) }
+    {
+        let mapped = self.met(alloc, parent)?;
+        self.by_pid.insert(pid, mapped)?;
+        Ok(())
+    }
+
+    /// Returns the mappings of a process: one that is not known begins without mappings.
+    fn met(&mut self, alloc: Global, pid: u32) -> Result<MappedProcess, StacksError>
+        ensures met { IfOk result (λ mapped. get nat_cmp self.new.by_pid pid ≡ Some mapped) }
+        ensures kept { OnOk result ((number : ℕ) → mapped_in self.new.by_pid number ≡ mapped_in self.old.by_pid number) }
+        ensures ready { self.new.ready ≡ self.old.ready }
+        ensures drawn { (self.old.generations ≤ self.new.generations) × (self.new.generations ≤ self.old.generations + 1) }
+        ensures refused { IfErr result (MayEnd false None (self.old.generations + 1) 0) }
+    {
+        if let Some(mapped) = self.by_pid.get(&pid) {
+            return Ok(mapped.clone()?);
+        }
+        let number = self.put(pid, SharedMappings::new(alloc)?)?;
+        Ok(MappedProcess {
+            number,
+            mappings: SharedMappings::new(alloc)?,
+        })
+    }
+
+    /// Stores the mappings of a process under a number of their own, in the place of those that it has, and returns the number.
+    fn put(&mut self, pid: u32, mappings: SharedMappings) -> Result<u64, StacksError>
+        ensures put { IfOk result (λ number. get nat_cmp self.new.by_pid pid ≡ Some (record { number = number; mappings = mappings })) }
+        ensures mapped { OnOk result ((number : ℕ) → mapped_in self.new.by_pid number ≡ with_process pid mappings (mapped_in self.old.by_pid) number) }
+        ensures ready { self.new.ready ≡ self.old.ready }
+        ensures drawn { (self.old.generations ≤ self.new.generations) × (self.new.generations ≤ self.old.generations + 1) }
+        ensures refused { IfErr result (MayEnd false None (self.old.generations + 1) 0) }
+    {
+        let Some(number) = self.generations.next() else {
+            return Err(StacksError::GenerationsExhausted);
+        };
+        self.by_pid.insert(pid, MappedProcess { number, mappings })?;
+        Ok(number)
+    }
+
+    /// Takes a process out of those that are known: its mappings, and what is ready of it, if no other process has the same.
+    fn take(&mut self, alloc: Global, pid: u32) -> Result<Taken<U>, StacksError>
+        ensures taken { IfOk result (λ taken. taken.mappings ≡ mapped_in self.old.by_pid pid) }
+        ensures had { IfOk result (λ taken. IfSome taken.process (λ process. process.mappings ≡ mapped_in self.old.by_pid pid)) }
+        ensures others { (number : ℕ) → mapped_in self.new.by_pid number ≡ with_process pid [] (mapped_in self.old.by_pid) number }
+        ensures served { (module_of : Mapping → ModuleView) (cache : U.Cache)
+            → IsServed module_of (λ view. U.is_sound view cache) self.old.ready self.old.generations
+            → IsServed module_of (λ view. U.is_sound view cache) self.new.ready self.new.generations }
+        ensures fits { IfOk result (λ taken. (module_of : Mapping → ModuleView) (cache : U.Cache)
+            → IsServed module_of (λ view. U.is_sound view cache) self.old.ready self.old.generations
+            → IfSome taken.process (IsFit module_of (λ view. U.is_sound view cache) self.new.ready self.new.generations)) }
+        ensures drawn { self.new.generations ≡ self.old.generations }
+        ensures refused { IfErr result (λ error. error ≡ OutOfMemory) }
+    {
+        let Some(mapped) = self.by_pid.remove(&pid) else {
+            return Ok(Taken {
+                mappings: SharedMappings::new(alloc)?,
+                process: None,
+            });
+        };
+        let process = if mapped.mappings.is_shared() {
+            None
+        } else {
+            self.ready.remove(&mapped.number)
+        };
+        Ok(Taken {
+            mappings: mapped.mappings,
+            process,
+        })
+    }
+
+    /// Maps a file into a process that was taken.
+    fn mapped<M: ModuleMaker<U>>(
         &mut self,
         alloc: Global,
         maker: &M,
-        change: Change,
-    ) -> Result<(), StacksError>
+        process: Process<U>,
+        mapping: Mapping,
+    ) -> Result<Process<U>, StacksError>
     where
         U::Module: Drop,
-        requires { (cache : U.Cache) × IsServed (M.module_of maker.now) (λ view. U.is_sound view cache) self.old.by_pid self.old.generations }
-        ensures mapped { OnOk result ((number : ℕ) → mapped_in self.new.by_pid number ≡ after change (mapped_in self.old.by_pid) number) }
+        requires { HasModules (M.module_of maker.now) process }
+        ensures mapped { IfOk result (λ after. after.mappings ≡ with_mapping mapping process.mappings) }
+        ensures kept { (self.new.by_pid ≡ self.old.by_pid) × (self.new.ready ≡ self.old.ready) }
         ensures served { OnOk result ((cache : U.Cache)
-            → IsServed (M.module_of maker.now) (λ view. U.is_sound view cache) self.old.by_pid self.old.generations
-            → IsServed (M.module_of maker.now) (λ view. U.is_sound view cache) self.new.by_pid self.new.generations) }
-        ensures drawn { OnOk result (self.new.generations ≤ self.old.generations + drawn_by change (mapped_in self.old.by_pid)) }
-        ensures refused { IfErr result (λ error. MayEnd false None (self.old.generations + drawn_by change (mapped_in self.old.by_pid)) 0 error
-            ⊎ ((error ≡ EmptyMapping) × IsWithoutAddress change)) }
+            → IsServed (M.module_of maker.now) (λ view. U.is_sound view cache) self.old.ready self.old.generations
+            → IsServed (M.module_of maker.now) (λ view. U.is_sound view cache) self.new.ready self.new.generations) }
+        ensures fits { IfOk result (λ after. (cache : U.Cache)
+            → IsServed (M.module_of maker.now) (λ view. U.is_sound view cache) self.old.ready self.old.generations
+            → IsFit (M.module_of maker.now) (λ view. U.is_sound view cache) self.new.ready self.new.generations after) }
+        ensures drawn { OnOk result (self.new.generations ≡ self.old.generations + changed_modules mapping process.mappings) }
+        ensures refused { IfErr result (λ error. MayEnd false None (self.old.generations + changed_modules mapping process.mappings) 0 error
+            ⊎ ((error ≡ EmptyMapping) × (mapping.end ≤ mapping.start))) }
     {
-        match change {
-            Change::Map { pid, mapping } => self.map(alloc, maker, pid, mapping)?,
-            Change::Begin { pid } => self.begin(alloc, pid)?,
-            Change::Fork { pid, parent } => self.fork(alloc, pid, parent)?,
+        Ok(process.mapped(alloc, maker, mapping, &mut self.generations)?)
+    }
+
+    /// Lets the processes that are ready go, where they have too many mappings together with so many more.
+    fn make_room(&mut self, alloc: Global, mappings: usize)
+        ensures kept { (self.new.by_pid ≡ self.old.by_pid) × (self.new.generations ≡ self.old.generations) }
+        ensures served { (module_of : Mapping → ModuleView) (cache : U.Cache)
+            → IsServed module_of (λ view. U.is_sound view cache) self.old.ready self.old.generations
+            → IsServed module_of (λ view. U.is_sound view cache) self.new.ready self.new.generations }
+    {
+        let more = mappings.saturating_add(1);
+        self.ready_mappings = self.ready_mappings.saturating_add(more);
+        if self.ready_mappings > MOST_READY {
+            self.ready = BTreeMap::new(alloc);
+            self.ready_mappings = more;
         }
+    }
+
+    /// Keeps a process as the one of the number of a process's mappings, which it has.
+    fn keep(&mut self, pid: u32, number: u64, process: Process<U>) -> Result<(), StacksError>
+        requires { get nat_cmp self.old.by_pid pid ≡ Some (record { number = number; mappings = process.mappings }) }
+        ensures ready { OnOk result (IsSome (ready_in self.new.by_pid self.new.ready pid)) }
+        ensures kept { (self.new.by_pid ≡ self.old.by_pid) × (self.new.generations ≡ self.old.generations) }
+        ensures served { OnOk result ((module_of : Mapping → ModuleView) (cache : U.Cache)
+            → IsServed module_of (λ view. U.is_sound view cache) self.old.ready self.old.generations
+            → IsFit module_of (λ view. U.is_sound view cache) self.old.ready self.old.generations process
+            → IsServed module_of (λ view. U.is_sound view cache) self.new.ready self.new.generations) }
+        ensures refused { IfErr result (λ error. error ≡ OutOfMemory) }
+    {
+        self.ready.insert(number, process)?;
         Ok(())
     }
 }

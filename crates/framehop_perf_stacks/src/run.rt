@@ -3,8 +3,6 @@
 //! The files that a recording maps are read before, so what makes modules stays as it is while processes change.
 //! All processes share one cache, since generations tell their lists of modules apart.
 ghost use Rattle.std.specs.Prelude.{ℕ, ◌≡◌, ◌++◌, true, ◌≢◌, ◌≤◌, ◌+◌, ◌-◌, ◌^◌, min, ◌&&◌, [], Some, None, IfOk, IfErr, OnOk, OnErr, Ok, Err, IsSome, Bool, false, List, map, count_by};
-ghost use Rattle.std.specs.BTreeMap.{get};
-ghost use Rattle.std.specs.Ordering.{nat_cmp};
 ghost use Rattle.std.specs.Result.{result_err, result_unwrap_or};
 ghost use Rattle.framehop.specs.Modules.{ModuleView};
 ghost use Rattle.framehop_folded.specs.Folded.{entry_of};
@@ -22,7 +20,7 @@ ghost use Rattle.framehop_perf_stacks.specs.Changes.{change_in};
 ghost use Rattle.framehop_perf_stacks.specs.Counts.{CountsOneMore, HasSameSamples};
 ghost use Rattle.framehop_perf_stacks.specs.Ended.{refusal_in, first_refusal, before_refusal, drawn_in, MayEnd};
 ghost use Rattle.framehop_perf_stacks.specs.Names.{named_in};
-ghost use Rattle.framehop_perf_stacks.specs.Processes.{mapped_in, IsServed};
+ghost use Rattle.framehop_perf_stacks.specs.Processes.{mapped_in, ready_in, IsServed};
 ghost use Rattle.framehop_perf_stacks.specs.Recording.{sample_in, records_in};
 ghost use Rattle.framehop_perf_stacks.specs.Run.{AreCounted, CountsMore, is_sample, samples_in_kind, sample_refusal};
 ghost use Rattle.framehop_perf_stacks.specs.Samples.{State, beginning, state_in, state_after, state_over, drawn_over, Agrees, samples_from, SampleStack, of_walk, of_chain, unread_stack, IsStackOfChain, is_copy_full, is_unread_end, told_by, copied_memory, NotedIf, IsUserStack, IsToldAt, IsToldWith, Told, lost_after, lost_over, Each, IsTaken, AreTaken};
@@ -104,7 +102,7 @@ where
     /// Returns the state before the first record.
     pub fn new(alloc: Global) -> Result<Self, StacksError>
         ensures served { IfOk result (λ run. (module_of : Mapping → ModuleView)
-            → IsServed module_of (λ view. U.is_sound view run.cache) run.processes.by_pid run.processes.generations) }
+            → IsServed module_of (λ view. U.is_sound view run.cache) run.processes.ready run.processes.generations) }
         ensures none { IfOk result (λ run. (frames : Bool) → AreCounted frames 0 run.counts) }
         ensures begun { IfOk result (λ run. Agrees run.names run.processes.by_pid beginning) }
         ensures uncounted { IfOk result (λ run. (stack : List ℕ) → entry_of run.counts.stacks stack ≡ None) }
@@ -133,7 +131,7 @@ where
         options: Options<'_>,
         out: &mut W,
     ) -> Result<(), StacksError>
-        requires { IsSome (get nat_cmp self.old.processes.by_pid sample.pid) }
+        requires { IsSome (ready_in self.old.processes.by_pid self.old.processes.ready sample.pid) }
         ensures counted { OnOk result (CountsMore options.entry.frames 1 self.old.counts self.new.counts) }
         ensures processes { self.new.processes ≡ self.old.processes }
         ensures names { self.new.names ≡ self.old.names }
@@ -186,15 +184,15 @@ where
         options: Options<'_>,
         out: &mut W,
     ) -> Result<(), StacksError>
-        requires { IsSome (get nat_cmp self.old.processes.by_pid sample.pid) }
+        requires { IsSome (ready_in self.old.processes.by_pid self.old.processes.ready sample.pid) }
         ensures served { OnOk result ((module_of : Mapping → ModuleView)
-            → IsServed module_of (λ view. U.is_sound view self.old.cache) self.old.processes.by_pid self.old.processes.generations
-            → IsServed module_of (λ view. U.is_sound view self.new.cache) self.new.processes.by_pid self.new.processes.generations) }
+            → IsServed module_of (λ view. U.is_sound view self.old.cache) self.old.processes.ready self.old.processes.generations
+            → IsServed module_of (λ view. U.is_sound view self.new.cache) self.new.processes.ready self.new.processes.generations) }
         ensures counted { OnOk result (CountsMore options.entry.frames 1 self.old.counts self.new.counts) }
         ensures processes { self.new.processes ≡ self.old.processes }
         ensures names { self.new.names ≡ self.old.names }
         ensures told { OnOk result ((module_of : Mapping → ModuleView)
-            → IsServed module_of (λ view. U.is_sound view self.old.cache) self.old.processes.by_pid self.old.processes.generations
+            → IsServed module_of (λ view. U.is_sound view self.old.cache) self.old.processes.ready self.old.processes.generations
             → (stack : SampleStack) × ((notes : List (List ℕ)) × IsUserStack U.walker U.is_note U.starts (options.entry.frames && options.entry.explain) options.entry.limit files.now (mapped_in self.old.processes.by_pid sample.entry.pid) (map module_of (mapped_in self.old.processes.by_pid sample.entry.pid)) mask (read_chain_view sample.entry.chain) (Ok (user_view user.entry)) stack notes
             × IsTaken options.entry.frames (told_by options.entry files.now (named_in self.old.names sample.entry.tid) (Some sample.entry) (mapped_in self.old.processes.by_pid sample.entry.pid) stack notes)
             self.old.counts self.new.counts (W.contents out.old) (W.contents out.new))) }
@@ -243,6 +241,7 @@ where
         options: Options<'_>,
         out: &mut W,
     ) -> Result<(), StacksError>
+        requires { IsSome (ready_in self.old.processes.by_pid self.old.processes.ready sample.pid) }
         ensures counted { OnOk result (CountsMore options.entry.frames 1 self.old.counts self.new.counts) }
         ensures processes { self.new.processes ≡ self.old.processes }
         ensures names { self.new.names ≡ self.old.names }
@@ -285,67 +284,63 @@ where
     }
 
     /// Unwinds a sample, or counts why that can't be done.
-    fn take_sample<W: Write>(
+    fn take_sample<M: ModuleMaker<U>, W: Write>(
         &mut self,
         alloc: Global,
         files: &Files,
+        maker: &M,
         sample: Sample<'_>,
         mask: u64,
         options: Options<'_>,
         out: &mut W,
     ) -> Result<(), StacksError>
-        ensures served { OnOk result ((module_of : Mapping → ModuleView)
-            → IsServed module_of (λ view. U.is_sound view self.old.cache) self.old.processes.by_pid self.old.processes.generations
-            → IsServed module_of (λ view. U.is_sound view self.new.cache) self.new.processes.by_pid self.new.processes.generations) }
+        ensures served { OnOk result (IsServed (M.module_of maker.now) (λ view. U.is_sound view self.old.cache) self.old.processes.ready self.old.processes.generations
+            → IsServed (M.module_of maker.now) (λ view. U.is_sound view self.new.cache) self.new.processes.ready self.new.processes.generations) }
         ensures counted { OnOk result (CountsMore options.entry.frames 1 self.old.counts self.new.counts) }
         ensures names { self.new.names ≡ self.old.names }
         ensures mapped { OnOk result ((pid : ℕ) → mapped_in self.new.processes.by_pid pid ≡ mapped_in self.old.processes.by_pid pid) }
-        ensures told { OnOk result ((module_of : Mapping → ModuleView)
-            → IsServed module_of (λ view. U.is_sound view self.old.cache) self.old.processes.by_pid self.old.processes.generations
-            → (told : Told) × IsToldAt module_of U.walker U.is_note U.starts options.entry files.now (state_in self.old.names self.old.processes.by_pid) (Ok (sample_view sample.entry, mask)) told
+        ensures told { OnOk result (IsServed (M.module_of maker.now) (λ view. U.is_sound view self.old.cache) self.old.processes.ready self.old.processes.generations
+            → (told : Told) × IsToldAt (M.module_of maker.now) U.walker U.is_note U.starts options.entry files.now (state_in self.old.names self.old.processes.by_pid) (Ok (sample_view sample.entry, mask)) told
             × IsTaken options.entry.frames told self.old.counts self.new.counts (W.contents out.old) (W.contents out.new)) }
-        ensures drawn { self.new.processes.generations ≤ self.old.processes.generations + 1 }
+        ensures drawn { self.new.processes.generations ≤ self.old.processes.generations + 2 }
         ensures refused { (samples : ℕ) → AreCounted options.entry.frames samples self.old.counts
-            → IfErr result (MayEnd options.entry.frames None (self.old.processes.generations + 1) (samples + 1)) }
+            → IfErr result (MayEnd options.entry.frames None (self.old.processes.generations + 2) (samples + 1)) }
     {
-        let user = match sample.user {
-            Ok(user) => user,
-            Err(error) => {
-                self.take_unread(alloc, files, sample, error, options, out)?;
-                return Ok(());
-            }
-        };
-        self.processes.meet(alloc, sample.pid)?;
-        self.take_user(alloc, files, sample, mask, user, options, out)?;
+        self.processes.make_ready(alloc, maker, sample.pid)?;
+        match sample.user {
+            Ok(user) => self.take_user(alloc, files, sample, mask, user, options, out)?,
+            Err(error) => self.take_unread(alloc, files, sample, error, options, out)?,
+        }
         Ok(())
     }
 
     /// Unwinds the sample of a record, or counts why that can't be done.
-    fn take_sample_record<W: Write>(
+    fn take_sample_record<M: ModuleMaker<U>, W: Write>(
         &mut self,
         alloc: Global,
         events: &Events<'_>,
         files: &Files,
+        maker: &M,
         record: Record<'_>,
         options: Options<'_>,
         out: &mut W,
     ) -> Result<(), StacksError>
-        ensures served { OnOk result ((module_of : Mapping → ModuleView)
-            → IsServed module_of (λ view. U.is_sound view self.old.cache) self.old.processes.by_pid self.old.processes.generations
-            → IsServed module_of (λ view. U.is_sound view self.new.cache) self.new.processes.by_pid self.new.processes.generations) }
+        ensures served { OnOk result (IsServed (M.module_of maker.now) (λ view. U.is_sound view self.old.cache) self.old.processes.ready self.old.processes.generations
+            → IsServed (M.module_of maker.now) (λ view. U.is_sound view self.new.cache) self.new.processes.ready self.new.processes.generations) }
         ensures counted { OnOk result (CountsMore options.entry.frames 1 self.old.counts self.new.counts) }
         ensures names { self.new.names ≡ self.old.names }
         ensures mapped { OnOk result ((pid : ℕ) → mapped_in self.new.processes.by_pid pid ≡ mapped_in self.old.processes.by_pid pid) }
-        ensures told { OnOk result ((module_of : Mapping → ModuleView)
-            → IsServed module_of (λ view. U.is_sound view self.old.cache) self.old.processes.by_pid self.old.processes.generations
-            → (told : Told) × IsToldAt module_of U.walker U.is_note U.starts options.entry files.now (state_in self.old.names self.old.processes.by_pid) (sample_in (map attribute_view events.now.attributes.items) (record_view «record».entry)) told
+        ensures told { OnOk result (IsServed (M.module_of maker.now) (λ view. U.is_sound view self.old.cache) self.old.processes.ready self.old.processes.generations
+            → (told : Told) × IsToldAt (M.module_of maker.now) U.walker U.is_note U.starts options.entry files.now (state_in self.old.names self.old.processes.by_pid) (sample_in (map attribute_view events.now.attributes.items) (record_view «record».entry)) told
             × IsTaken options.entry.frames told self.old.counts self.new.counts (W.contents out.old) (W.contents out.new)) }
-        ensures drawn { self.new.processes.generations ≤ self.old.processes.generations + 1 }
+        ensures drawn { self.new.processes.generations ≤ self.old.processes.generations + 2 }
         ensures refused { (samples : ℕ) → AreCounted options.entry.frames samples self.old.counts
-            → IfErr result (MayEnd options.entry.frames None (self.old.processes.generations + 1) (samples + 1)) }
+            → IfErr result (MayEnd options.entry.frames None (self.old.processes.generations + 2) (samples + 1)) }
     {
         match sample_of(events, record) {
-            Ok((sample, mask)) => self.take_sample(alloc, files, sample, mask, options, out)?,
+            Ok((sample, mask)) => {
+                self.take_sample(alloc, files, maker, sample, mask, options, out)?
+            }
             Err(error) => {
                 take_refused(
                     alloc,
@@ -398,8 +393,8 @@ where
         options: Options<'_>,
         out: &mut W,
     ) -> Result<(), StacksError>
-        requires served { IsServed (M.module_of maker.now) (λ view. U.is_sound view self.old.cache) self.old.processes.by_pid self.old.processes.generations }
-        ensures served { OnOk result (IsServed (M.module_of maker.now) (λ view. U.is_sound view self.new.cache) self.new.processes.by_pid self.new.processes.generations) }
+        requires served { IsServed (M.module_of maker.now) (λ view. U.is_sound view self.old.cache) self.old.processes.ready self.old.processes.generations }
+        ensures served { OnOk result (IsServed (M.module_of maker.now) (λ view. U.is_sound view self.new.cache) self.new.processes.ready self.new.processes.generations) }
         ensures counted { OnOk result (CountsMore options.entry.frames (samples_in_kind «record».entry.kind) self.old.counts self.new.counts) }
         ensures state { OnOk result (Agrees self.new.names self.new.processes.by_pid
             (state_after files.now (record_view «record».entry) (state_in self.old.names self.old.processes.by_pid))) }
@@ -421,7 +416,7 @@ where
         if record.kind == SAMPLE {
             let body = samples.body(record, buffer)?;
             let record = Record { body, ..record };
-            self.take_sample_record(alloc, events, files, record, options, out)?;
+            self.take_sample_record(alloc, events, files, maker, record, options, out)?;
             return Ok(());
         }
         if record.kind == LOST {
@@ -446,9 +441,9 @@ where
         options: Options<'_>,
         out: &mut W,
     ) -> Result<(), StacksError>
-        requires served { IsServed (M.module_of maker.now) (λ view. U.is_sound view self.old.cache) self.old.processes.by_pid self.old.processes.generations }
+        requires served { IsServed (M.module_of maker.now) (λ view. U.is_sound view self.old.cache) self.old.processes.ready self.old.processes.generations }
         requires none { AreCounted options.frames 0 self.old.counts }
-        ensures served { OnOk result (IsServed (M.module_of maker.now) (λ view. U.is_sound view self.new.cache) self.new.processes.by_pid self.new.processes.generations) }
+        ensures served { OnOk result (IsServed (M.module_of maker.now) (λ view. U.is_sound view self.new.cache) self.new.processes.ready self.new.processes.generations) }
         ensures counted { OnOk result (AreCounted options.entry.frames (count_by is_sample recording.now.records.items) self.new.counts) }
         ensures state { (state : State) → Agrees self.old.names self.old.processes.by_pid state → OnOk result
             (Agrees self.new.names self.new.processes.by_pid (state_over files.now (records_in recording.now.records.items) state)) }

@@ -1,6 +1,24 @@
+use Rattle.std.proofs.Common.{arith}
+use Rattle.framehop_perf_stacks.proofs.NumberedLemmas.{after-put, among-shared, drawn-among, same-among, ready-among, ready-self}
 use Rattle.framehop_perf_stacks.proofs.processes.Processes.fork.Goals as goal
 
-pub returns-clause-served : goal.returns-clause-served
-returns-clause-served g c = λ module_of cache served.
-    let begun = c.in_ok-process.ensures in
-    c.in_ok-put.ensures.served module_of cache (begun.served module_of cache served) (begun.fits module_of cache served)
+pub invariant_of-self-clause-drawn : goal.invariant_of-self-clause-drawn
+invariant_of-self-clause-drawn g c =
+    let mine = c.met.new.self in
+    let put = after-put mine.by_pid c.insert.new.self c.args.pid c.in_ok-mapped.mapped c.insert.result c.insert.ensures.updates c.insert.ensures.err in
+    let among = among-shared mine.by_pid c.insert.new.self c.args.pid c.args.parent c.in_ok-mapped.mapped c.in_ok-mapped.ensures.met put in
+    drawn-among mine.by_pid c.insert.new.self mine.generations mine.generations among (omega arith) mine.drawn
+
+pub invariant_of-self-clause-same : goal.invariant_of-self-clause-same
+invariant_of-self-clause-same g c =
+    let mine = c.met.new.self in
+    let put = after-put mine.by_pid c.insert.new.self c.args.pid c.in_ok-mapped.mapped c.insert.result c.insert.ensures.updates c.insert.ensures.err in
+    let among = among-shared mine.by_pid c.insert.new.self c.args.pid c.args.parent c.in_ok-mapped.mapped c.in_ok-mapped.ensures.met put in
+    same-among mine.by_pid c.insert.new.self among mine.same
+
+pub invariant_of-self-clause-have_ready : goal.invariant_of-self-clause-have_ready
+invariant_of-self-clause-have_ready g c =
+    let mine = c.met.new.self in
+    let put = after-put mine.by_pid c.insert.new.self c.args.pid c.in_ok-mapped.mapped c.insert.result c.insert.ensures.updates c.insert.ensures.err in
+    let among = among-shared mine.by_pid c.insert.new.self c.args.pid c.args.parent c.in_ok-mapped.mapped c.in_ok-mapped.ensures.met put in
+    ready-among mine.by_pid c.insert.new.self mine.ready mine.ready among (ready-self mine.ready) mine.have_ready

@@ -6,6 +6,7 @@ use Rattle.framehop_recording.specs.Tasks.{lost_at}
 use Rattle.framehop_recording.specs.Records.{record_view}
 use Rattle.framehop_perf_stacks.specs.Names.{named_in}
 use Rattle.framehop_perf_stacks.specs.Processes.{mapped_in}
+use Rattle.framehop_perf_stacks.specs.Run.{samples_in_kind}
 use Rattle.framehop_perf_stacks.specs.Changes.{change_in}
 use Rattle.framehop_perf_stacks.specs.Ended.{refusal_in, naming_refusal, drawn_by, drawn_in, IsWithoutAddress, MayEnd}
 use Rattle.framehop_recording.specs.declared.error.RecordingError.{RecordingError}
@@ -13,7 +14,7 @@ use Rattle.framehop_perf_stacks.specs.declared.changes.Change.{Change}
 use Rattle.framehop_perf_stacks.specs.declared.error.StacksError.{StacksError}
 use Rattle.framehop_perf_stacks.specs.declared.error.StacksError.TheVariants.{EmptyMapping}
 use Rattle.framehop_perf_stacks.proofs.EndedLemmas.{refused_by, ends_more, failed_as}
-use Rattle.framehop_perf_stacks.proofs.StateLemmas.{named-kept, mapped-kept, sample-unrefused, lost-refusal, naming-refused, change-refused, change-unrefused, IsAddressed, change-addressed, not-empty}
+use Rattle.framehop_perf_stacks.proofs.StateLemmas.{drawn-none, named-kept, mapped-kept, sample-unrefused, lost-refusal, naming-refused, change-refused, change-unrefused, IsAddressed, change-addressed, not-empty}
 use Rattle.framehop_perf_stacks.proofs.run.Run.take_record.Goals as goal
 
 pub apply-requires : goal.apply-requires
@@ -24,7 +25,7 @@ returns-in_ok-apply-clause-served g c = c.in_ok-apply.ensures.served c.args.self
 
 pub returns-then-record-eq-SAMPLE-clause-served : goal.returns-then-record-eq-SAMPLE-clause-served
 returns-then-record-eq-SAMPLE-clause-served g c =
-    c.in_ok-take_sample_record.ensures.served (g.M.ModuleMaker.module_of c.args.maker.now) c.requires.served
+    c.in_ok-take_sample_record.ensures.served c.requires.served
 
 pub returns-then-record-eq-SAMPLE-clause-state : goal.returns-then-record-eq-SAMPLE-clause-state
 returns-then-record-eq-SAMPLE-clause-state g c =
@@ -40,9 +41,36 @@ returns-then-record-eq-SAMPLE-clause-state g c =
           ∙ sym (mapped-kept r maps names forks c.args.files.now (mapped_in c.args.self.now.processes.by_pid) pid);
     }
 
+pub returns-then-record-eq-SAMPLE-clause-drawn : goal.returns-then-record-eq-SAMPLE-clause-drawn
+returns-then-record-eq-SAMPLE-clause-drawn g c =
+    let r = record_view c.args.record in
+    let kind : c.args.record.kind ≡ 9 = search rules in
+    let maps : ((r.kind == PERF_RECORD_MMAP) || (r.kind == PERF_RECORD_MMAP2)) ≡ false = rw kind refl in
+    let names : (r.kind == PERF_RECORD_COMM) ≡ false = rw kind refl in
+    let forks : (r.kind == PERF_RECORD_FORK) ≡ false = rw kind refl in
+    let two = drawn-none r maps names forks c.args.files.now (mapped_in c.args.self.now.processes.by_pid) in
+    let drawn = c.in_ok-take_sample_record.ensures.drawn in
+    omega (arith, two, drawn)
+
+pub returns-in_err-take_sample_record-clause-refused : goal.returns-in_err-take_sample_record-clause-refused
+returns-in_err-take_sample_record-clause-refused g c = λ samples counted.
+    let r = record_view c.args.record in
+    let kind : c.args.record.kind ≡ 9 = search rules in
+    let maps : ((r.kind == PERF_RECORD_MMAP) || (r.kind == PERF_RECORD_MMAP2)) ≡ false = rw kind refl in
+    let names : (r.kind == PERF_RECORD_COMM) ≡ false = rw kind refl in
+    let forks : (r.kind == PERF_RECORD_FORK) ≡ false = rw kind refl in
+    let two = drawn-none r maps names forks c.args.files.now (mapped_in c.args.self.now.processes.by_pid) in
+    let one : samples_in_kind c.args.record.kind ≡ 1 = rw kind refl in
+    failed_as c.from_residual-in_err-take_sample_record.result _ _ c.from_residual-in_err-take_sample_record.ensures.1
+    (ends_more c.args.options.frames c.args.options.frames None (refusal_in r) (c.args.self.now.processes.generations + 2)
+    (c.args.self.now.processes.generations + drawn_in (change_in c.args.files.now r) (mapped_in c.args.self.now.processes.by_pid))
+    (samples + 1) (samples + samples_in_kind c.args.record.kind) c.in_err-take_sample_record.field-0.0
+    (λ writes. writes) (λ refusal none. absurd (true≢false (sym (ap is_some none)))) (omega (arith, two)) (omega (arith, one))
+    (c.in_err-take_sample_record.ensures.refused samples counted))
+
 pub returns-then-record-eq-SAMPLE-clause-sample : goal.returns-then-record-eq-SAMPLE-clause-sample
 returns-then-record-eq-SAMPLE-clause-sample g c = λ kind.
-    let told = c.in_ok-take_sample_record.ensures.told (g.M.ModuleMaker.module_of c.args.maker.now) c.requires.served in
+    let told = c.in_ok-take_sample_record.ensures.told c.requires.served in
     (told.0, (c.in_ok-body.body.now, c.in_ok-body.ensures, told.1), told.2)
 
 pub returns-then-record-eq-LOST-clause-state : goal.returns-then-record-eq-LOST-clause-state
@@ -144,7 +172,7 @@ returns-then-record-eq-SAMPLE-clause-lost g c =
     let r = record_view c.args.record in
     let kind : c.args.record.kind ≡ 9 = search rules in
     let other : (r.kind == PERF_RECORD_LOST) ≡ false = rw kind refl in
-    let told = c.in_ok-take_sample_record.ensures.told (g.M.ModuleMaker.module_of c.args.maker.now) c.requires.served in
+    let told = c.in_ok-take_sample_record.ensures.told c.requires.served in
     rw other told.2.0.lost
 
 pub returns-then-record-eq-LOST-clause-lost_before : goal.returns-then-record-eq-LOST-clause-lost_before

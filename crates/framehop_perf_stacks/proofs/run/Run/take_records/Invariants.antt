@@ -11,7 +11,7 @@ use Rattle.framehop_perf_stacks.proofs.run.Run.take_records.Given as goal
 abbrev pub invariant-loop-timed : goal.invariant-loop-timed
 invariant-loop-timed g l =
     IsServed (g.M.ModuleMaker.module_of l.maker) (λ view. g.U.Unwinder.is_sound view l.self.cache)
-    l.self.processes.by_pid l.self.processes.generations
+    l.self.processes.ready l.self.processes.generations
     × AreCounted l.options.frames (count_by is_sample (take l.timed-index l.recording.records.items)) l.self.counts
     × ((first : State) → Agrees l.initial.self.names l.initial.self.processes.by_pid first →
     IsSoFar l.files (IsToldWith (g.M.ModuleMaker.module_of l.maker) g.U.Steps.walker g.U.Steps.is_note g.U.Sampled.starts l.options l.files

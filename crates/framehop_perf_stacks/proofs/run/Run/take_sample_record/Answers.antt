@@ -5,11 +5,11 @@ use Rattle.framehop_perf_stacks.specs.Samples.{of_walk, stack_told, IsTaken}
 use Rattle.framehop_perf_stacks.proofs.run.Run.take_sample_record.Goals as goal
 
 pub returns-in_ok-take_sample-in-Ok-clause-told : goal.returns-in_ok-take_sample-in-Ok-clause-told
-returns-in_ok-take_sample-in-Ok-clause-told g c = λ module_of served.
-    rw c.in-Ok.ensures.exact (c.in_ok-take_sample-in-Ok.ensures.told module_of served)
+returns-in_ok-take_sample-in-Ok-clause-told g c = λ served.
+    rw c.in-Ok.ensures.exact (c.in_ok-take_sample-in-Ok.ensures.told served)
 
 pub returns-in_ok-take_refused-in-Err-clause-told : goal.returns-in_ok-take_refused-in-Err-clause-told
-returns-in_ok-take_refused-in-Err-clause-told g c = λ module_of served.
+returns-in_ok-take_refused-in-Err-clause-told g c = λ served.
     let stack = of_walk (no_stack (sample_refusal c.in-Err.error)) in
     let P : List ℕ → Type 0 = λ why. IsTaken c.args.options.frames
     (stack_told c.args.options c.args.files.now (codes "[unknown]") (codes "[unknown]:\n") [] [] false (of_walk (no_stack why)) [])

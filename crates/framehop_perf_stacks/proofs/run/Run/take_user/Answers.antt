@@ -1,5 +1,5 @@
-use Rattle.std.proofs.Common.{◌≡◌, ℕ, List, [], map, Ok, ap, sym, subst}
-use Rattle.std.specs.Prelude.{◌&&◌, option_map, unwrap_or, Option}
+use Rattle.std.proofs.Common.{◌≡◌, ℕ, List, map, Ok, ap, sym, subst}
+use Rattle.std.specs.Prelude.{◌&&◌, Option}
 use Rattle.framehop.specs.Modules.{ModuleView, UnwinderView}
 use Rattle.framehop_frames.specs.Notes.{NotedStack, option_noted, AreStackNotes}
 use Rattle.framehop_frames.specs.Stack.{option_stack_view}
@@ -15,16 +15,15 @@ returns-clause-served g c = λ module_of served.
     rw (c.in_ok-take_walked.ensures.processes, c.in_ok-take_walked.ensures.cache)
     (served-after module_of _ _ _ _ c.known-process.result.now
     (λ other apart sound. c.in_ok-walked.ensures.stays_sound other apart sound)
-    c.args.sample.pid c.known-process.ensures served)
+    c.known-process.ensures.known.0 c.known-process.ensures.known.1 served)
 
 pub returns-clause-told : goal.returns-clause-told
 returns-clause-told g c = λ module_of served.
     let pid = c.args.sample.pid in
     let process = c.known-process.result.now in
-    let fit = fit-known module_of _ _ _ pid process c.known-process.ensures served in
-    let modules = modules-known module_of _ _ _ pid process c.known-process.ensures served in
-    let mapped : process.mappings ≡ mapped_in c.args.self.now.processes.by_pid pid =
-    sym (ap (λ found. unwrap_or (option_map (λ known. known.mappings) found) []) c.known-process.ensures) in
+    let fit = fit-known module_of _ _ _ c.known-process.ensures.known.0 process c.known-process.ensures.known.1 served in
+    let mapped : process.mappings ≡ mapped_in c.args.self.now.processes.by_pid pid = c.known-process.ensures.mapped in
+    let modules = modules-known module_of _ _ _ c.known-process.ensures.known.0 process (mapped_in c.args.self.now.processes.by_pid pid) mapped c.known-process.ensures.known.1 served in
     let explained = c.args.options.frames && c.args.options.explain in
     let start = c.start-start.result in
     let stack = of_walk (option_stack_view c.in_ok-walked.walked) in
