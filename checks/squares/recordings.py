@@ -10,6 +10,9 @@ The kinds:
     over_all    mappings, and one over them all
     forks       a process with COUNT mappings, and as many processes that begin as its copies
     forks_map   the same, of which each maps a file then
+    forks_sampled   forks of a process that no sample is of, each with a sample
+    forks_map_sampled   forks that each map a file, each with a sample: each has an unwinder of its own
+    maps_down_sampled   mappings one below the other, each with a sample after it
     samples     samples of a process on aarch64 with COUNT mappings, as many
     build_ids   mappings of COUNT files, of each of which the recording has a build id
     names       a process with a name of 60,000 letters, and COUNT threads that it begins
@@ -70,6 +73,12 @@ def sample_of_aarch64(pid, pc, identifier=None):
     return sample(pid, pc, registers, identifier)
 
 
+def sample_of_x86_64(pid, pc):
+    registers = [0] * 20
+    registers[7], registers[8] = STACK, pc
+    return sample(pid, pc, registers)
+
+
 def maps(count):
     return [mapping(1, FIRST + 2 * PAGE * at, PAGE, "/srv/a") for at in range(count)]
 
@@ -103,6 +112,18 @@ def forks(count):
 
 def forks_map(count):
     return forks(count) + [mapping(2 + at, FIRST + PAGE, PAGE, "/srv/b") for at in range(count)]
+
+
+def forks_sampled(count):
+    return forks(count) + [sample_of_x86_64(2 + at, FIRST + 8) for at in range(count)]
+
+
+def forks_map_sampled(count):
+    return forks_map(count) + [sample_of_x86_64(2 + at, FIRST + 8) for at in range(count)]
+
+
+def maps_down_sampled(count):
+    return [record for made in maps_down(count) for record in (made, sample_of_x86_64(1, FIRST + 8))]
 
 
 def samples(count):
@@ -150,7 +171,11 @@ def recording(body, registers, events, features):
 def main():
     kind, count = sys.argv[1], int(sys.argv[2])
     made = {
-        f.__name__: f for f in (maps, maps_down, split, over, over_all, forks, forks_map, samples, build_ids, names, ids)
+        f.__name__: f
+        for f in (
+            maps, maps_down, split, over, over_all, forks, forks_map, forks_sampled, forks_map_sampled, maps_down_sampled, samples,
+            build_ids, names, ids,
+        )
     }[kind](count)
     events = count if kind == "ids" else 1
     features = b"".join(build_id_record(f"/srv/{at:06}", at) for at in range(count)) if kind == "build_ids" else b""

@@ -4,7 +4,7 @@
 For each kind of checks/squares/recordings.py the program reads a recording of COUNT items (4,000 where it is left out) and one of
 four times as many. It prints the processor time and the greatest memory of both, and ends with status 1 where a run fails, or
 where the larger one takes more than 6 times the processor time and 0.1 s more, or more than 6 times the memory that is beyond that
-of a recording of one mapping. A kind in SQUARES is only printed: each fork has mappings of its own there.
+of a recording of one mapping. A kind in SQUARES is only printed: an unwinder has a list of modules, which each sample there asks for anew or each mapping moves.
 """
 
 import os
@@ -14,8 +14,11 @@ import sys
 import tempfile
 from pathlib import Path
 
-KINDS = ["maps", "maps_down", "split", "over", "over_all", "forks", "forks_map", "samples", "build_ids", "names", "ids"]
-SQUARES = ["forks_map"]
+KINDS = [
+    "maps", "maps_down", "split", "over", "over_all", "forks", "forks_map", "forks_sampled", "forks_map_sampled", "maps_down_sampled",
+    "samples", "build_ids", "names", "ids",
+]
+SQUARES = ["forks_map_sampled", "maps_down_sampled"]
 GENERATOR = Path(__file__).with_name("recordings.py")
 
 

@@ -227,11 +227,9 @@ impl<U: ProcessUnwinder> Processes<U> {
         if let Some(mapped) = self.by_pid.get(&pid) {
             return Ok(mapped.clone()?);
         }
-        let number = self.put(pid, SharedMappings::new(alloc)?)?;
-        Ok(MappedProcess {
-            number,
-            mappings: SharedMappings::new(alloc)?,
-        })
+        let mappings = SharedMappings::new(alloc)?;
+        let number = self.put(pid, mappings.clone()?)?;
+        Ok(MappedProcess { number, mappings })
     }
 
     /// Stores the mappings of a process under a number of their own, in the place of those that it has, and returns the number.
