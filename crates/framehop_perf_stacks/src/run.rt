@@ -644,11 +644,8 @@ fn is_copy_full(sample: Option<Sample<'_>>) -> bool
     ensures { result ≡ is_copy_full sample.entry }
 {
     match sample {
-        Some(sample) => match sample.user {
-            Ok(user) => user.is_full,
-            Err(_) => false,
-        },
-        None => false,
+        Some(Sample { user: Ok(user), .. }) => user.is_full,
+        _ => false,
     }
 }
 

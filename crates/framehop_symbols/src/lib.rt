@@ -13,3 +13,4 @@ pub mod mapped_bytes;
 pub mod object_file;
 mod pe_file;
 pub mod place;
+mod plainness;

@@ -3,11 +3,10 @@
 //! The sections and the code are copied and the file's bytes are let go, since a run has many files. The module lies at
 //! no address: the modules of all mappings of the file share its unwind data.
 ghost use Rattle.std.specs.Prelude.{◌≡◌, ◌⊎◌, ◌↔◌, IsTrue, ℕ, List, [], ◌++◌, Some, None, Ok, Err, IfOk, IfErr, OnOk, MatchResult, option_map, option_to_list};
-ghost use Rattle.std.specs.List.{filter};
 ghost use Rattle.framehop_elf.specs.Symbol.{symbol_for};
 ghost use Rattle.framehop_elf.specs.declared.error.ElfError.{ElfError};
 ghost use Rattle.framehop_memory.specs.Segment.{base_of};
-ghost use Rattle.framehop_symbols.specs.ObjectFiles.{Contents, Listed, headers_view, headers_of, build_id_in, build_id_by, debug_link_in, has_compressed_frames, contents_of, is_another, is_another_file, problem_by, problem_of, symbols_in, symbols_called, tables_of, debug_tables_of, is_internal, has_version, is_underscored, plainness_of, is_so_plain, by_plainness, IsTable, AreTables, module_of, module_in, debug_frame_in, bare_module, export_tables_of, elf_contents_of, pe_contents_of, IsOutOfMemory, IsKeptBy, IsKeptOf};
+ghost use Rattle.framehop_symbols.specs.ObjectFiles.{Contents, Listed, headers_view, headers_of, build_id_in, build_id_by, debug_link_in, has_compressed_frames, contents_of, is_another, is_another_file, problem_by, problem_of, symbols_in, symbols_called, tables_of, debug_tables_of, IsTable, AreTables, module_of, module_in, debug_frame_in, bare_module, export_tables_of, elf_contents_of, pe_contents_of, IsOutOfMemory, IsKeptBy, IsKeptOf};
 ghost use Rattle.framehop_symbols.specs.Code.{code_of_object};
 ghost use Rattle.framehop_symbols.specs.MappedBytes.{mapped_sections_view};
 ghost use Rattle.framehop_symbols.specs.Found.{has_names, is_unwind_data};
@@ -20,10 +19,10 @@ use crate::function_start::function_start;
 use crate::made_up_id::is_made_up;
 use crate::mapped_bytes::{MappedBytes, kept_sections};
 use crate::pe_file;
+use crate::plainness::by_plainness;
 use framehop::Module;
 use framehop::section::ExplicitModuleSectionInfo;
 use framehop::unwind_data::ModuleUnwindDataInternal;
-use framehop_bytes::bytes::{back, front};
 use framehop_bytes::string::{before_nul, string_at};
 use framehop_elf::build_id::read_build_id;
 use framehop_elf::error::ElfError;
@@ -41,9 +40,6 @@ use framehop_pe_file::header::FileHeader;
 use framehop_pe_file::section_header::SectionHeader as PeSectionHeader;
 use std::alloc::{AllocError, Global};
 use thiserror::Error;
-
-/// How many bytes of a symbol's name are looked at to choose among those of one function.
-const LOOKED_AT: usize = 256;
 
 /// `SHF_COMPRESSED`.
 const SHF_COMPRESSED: u64 = 0x800;
@@ -624,79 +620,4 @@ fn kept_symbols(alloc: Global, functions: Vec<Symbol>, names: &[u8]) -> Result<S
     let table = SymbolTable::new(ordered)?;
     let names = Vec::from_slice(alloc, names)?;
     Ok(Symbols { table, names })
-}
-
-/// Returns functions with the plainest names last: of functions that begin at one address the last is found.
-fn by_plainness(
-    alloc: Global,
-    functions: &[Symbol],
-    names: &[u8],
-) -> Result<Vec<Symbol>, AllocError>
-    ensures { IfOk result (λ ordered. ordered.items ≡ by_plainness (functions.now, names.now)) }
-{
-    let mut ordered = Vec::new(alloc);
-    push_so_plain(&mut ordered, functions, names, 0)?;
-    push_so_plain(&mut ordered, functions, names, 1)?;
-    push_so_plain(&mut ordered, functions, names, 2)?;
-    Ok(ordered)
-}
-
-/// Appends the functions whose names are so plain.
-fn push_so_plain(
-    ordered: &mut Vec<Symbol>,
-    functions: &[Symbol],
-    names: &[u8],
-    plainness: u8,
-) -> Result<(), AllocError>
-    ensures { OnOk result (ordered.new.items ≡ ordered.old.items ++ filter (is_so_plain names.now plainness) functions.now) }
-{
-    for function in functions {
-        if is_so_plain(names, plainness, *function) {
-            ordered.push(*function)?;
-        }
-    }
-    Ok(())
-}
-
-/// Returns whether the name of a function is so plain.
-fn is_so_plain(names: &[u8], plainness: u8, function: Symbol) -> bool
-    ensures { result ≡ is_so_plain names.now plainness function }
-{
-    let name = front(back(names, u64::from(function.st_name)), LOOKED_AT);
-    plainness_of(before_nul(name)) == plainness
-}
-
-/// Returns how plain a name is: 0 with a version (`free@@GLIBC_2.2.5`) or where it begins with `__GI_`, as the C library's
-/// names for itself do, 1 where it begins with `_`, else 2.
-fn plainness_of(name: &[u8]) -> u8
-    ensures { result ≡ plainness_of name.now }
-{
-    if is_internal(name) || has_version(name) {
-        0
-    } else if is_underscored(name) {
-        1
-    } else {
-        2
-    }
-}
-
-/// Returns whether a name is one of the C library's for itself.
-fn is_internal(name: &[u8]) -> bool
-    ensures { result ≡ is_internal name.now }
-{
-    name.starts_with(b"__GI_")
-}
-
-/// Returns whether a name has a version.
-fn has_version(name: &[u8]) -> bool
-    ensures { result ≡ has_version name.now }
-{
-    name.iter().any(|byte| *byte == b'@')
-}
-
-/// Returns whether a name begins with an underscore.
-fn is_underscored(name: &[u8]) -> bool
-    ensures { result ≡ is_underscored name.now }
-{
-    name.starts_with(b"_")
 }

@@ -8,7 +8,7 @@ use framehop::generations::Generations;
 use framehop::section::ModuleSectionInfo;
 use framehop::x86_64::UnwinderX86_64;
 use framehop::{Module, Unwinder};
-use framehop_processes::{Mapping, ModuleMaker, Process, ProcessesError};
+use framehop_processes::{Mapping, ModuleMaker, Process, ProcessesError, SharedMappings};
 use std::alloc::{AllocError, Global};
 use std::ops::Range;
 use std::test::Fail;
@@ -314,4 +314,77 @@ fn refuses_an_empty_one(alloc: Global) -> Result<bool, Fail> {
 #[test]
 fn has_no_mapping_without_an_address(rt: HostRuntime) -> Result<(), Fail> {
     holds(has_an_address() && refuses_an_empty_one(rt.alloc())?)
+}
+
+/// How many pages are mapped.
+const PAGES: u64 = 5000;
+
+/// The mapping of a page and half of the next.
+fn page(index: u64) -> Mapping
+    requires { index < 5000 }
+    ensures { result.start < result.end }
+{
+    let start = 0x1000 * index;
+    Mapping {
+        start,
+        end: start + 0x1800,
+        base_avma: start,
+        file: 0,
+        has_sections: true,
+    }
+}
+
+/// The mappings of pages, each over a part of the one before it: from the first page to the last, or back.
+fn pages(alloc: Global, is_rising: bool) -> Result<SharedMappings, AllocError> {
+    let mut mappings = SharedMappings::new(alloc)?;
+    for at in 0..PAGES {
+        let index = if is_rising { at } else { PAGES - 1 - at };
+        mappings = mappings.with_mapping(alloc, page(index))?;
+    }
+    Ok(mappings)
+}
+
+/// Whether of the mapping of a page is left what no later one lies over.
+fn is_left(index: u64, is_rising: bool, mapping: &Mapping) -> bool {
+    let start = index.saturating_mul(0x1000);
+    let expected = match (is_rising, index) {
+        (true, 4999) => (start, start.saturating_add(0x1800)),
+        (true, _) => (start, start.saturating_add(0x1000)),
+        (false, 0) => (start, start.saturating_add(0x1800)),
+        (false, _) => (start.saturating_add(0x800), start.saturating_add(0x1800)),
+    };
+    (mapping.start, mapping.end) == expected
+}
+
+/// Whether it is so of each, in their order.
+fn are_left(mappings: &[Mapping], is_rising: bool) -> bool {
+    let mut index = 0u64;
+    for mapping in mappings {
+        if !is_left(index, is_rising, mapping) {
+            return false;
+        }
+        index = index.saturating_add(1);
+    }
+    index == PAGES
+}
+
+/// Whether a process that begins with shared mappings has all of them, and their modules under one generation, also after
+/// one that shares them was changed.
+fn begins_with_pages(alloc: Global, is_rising: bool) -> Result<bool, Fail> {
+    let mappings = pages(alloc, is_rising)?;
+    let shared = mappings.clone()?;
+    let other = shared.with_mapping(alloc, mapping(0x10_0000, 0x20_0000))?;
+    let mut generations = Generations::starting_at(10);
+    let process: ProcessX86_64 = Process::with_mappings(alloc, &Bare, &mappings, &mut generations)?;
+    Ok(
+        are_left(process.mappings(), is_rising)
+            && process.unwinder().max_known_code_address() == 0x138_8800
+            && generations.next() == Some(11)
+            && other.len() < shared.len(),
+    )
+}
+
+#[test]
+fn begins_with_shared_mappings(rt: HostRuntime) -> Result<(), Fail> {
+    holds(begins_with_pages(rt.alloc(), true)? && begins_with_pages(rt.alloc(), false)?)
 }
