@@ -19,6 +19,8 @@ KINDS = [
     "samples", "build_ids", "names", "ids",
 ]
 SQUARES = ["forks_map_sampled", "maps_down_sampled"]
+# a run that takes less than this script, about so many MB, is counted as that
+UNSEEN = 4
 GENERATOR = Path(__file__).with_name("recordings.py")
 
 
@@ -48,7 +50,7 @@ def main():
         for kind in KINDS:
             small, large = measure(kind, count), measure(kind, 4 * count)
             time_grows = large[1] > 6 * small[1] + 0.1
-            memory_grows = large[2] - none > 6 * max(small[2] - none, 1)
+            memory_grows = large[2] - none > 6 * max(small[2] - none, UNSEEN)
             is_bad = (time_grows or memory_grows) and kind not in SQUARES
             failed = failed or is_bad
             sizes = " to ".join(f"{size:.2f} MB: {time:.2f} s, {memory:.0f} MB" for size, time, memory in (small, large))
