@@ -4,7 +4,6 @@ mod MinidumpLemmas
 mod NotedLemmas
 mod ProblemLemmas
 mod EndLemmas
-mod SegmentLemmas
 mod HeadLemmas
 mod FirstMappingLemmas
 mod OrderLemmas

@@ -4,7 +4,6 @@
 
 pub mod core_dump;
 pub mod dump;
-mod dumped_segments;
 pub mod error;
 pub mod exception;
 pub mod explain;
