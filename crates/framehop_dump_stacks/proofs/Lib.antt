@@ -5,6 +5,7 @@ mod NotedLemmas
 mod ProblemLemmas
 mod EndLemmas
 mod HeadLemmas
+mod FrameHeaderLemmas
 mod FirstMappingLemmas
 mod OrderLemmas
 mod WithinLemmas
