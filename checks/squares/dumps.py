@@ -120,6 +120,14 @@ def code_in_memory(count):
     return {"dump": core_of_code(files, [(start, image(0)) for start in starts])}
 
 
+def overlapping_files(count):
+    """Mapped files that are not given, each with a path and a segment of its own, which has its first bytes; of the segments the last
+    two overlap."""
+    starts = [0x10000000 + PAGE * at for at in range(count)]
+    files = [(start, start + PAGE, b"/lib/%08d.so" % at) for at, start in enumerate(starts)]
+    return {"dump": core_of_code(files, [(start, image(0)) for start in starts] + [(starts[-1] + 32, image(0))])}
+
+
 def mappings_of_one_file(count):
     """Mappings of one file that is not given, each with a segment of its own; as many program headers are in its first bytes."""
     front = image(min(count, 0xFE00))
@@ -286,8 +294,8 @@ def write(folder, files):
 
 
 KINDS = {function.__name__.replace("_", "-"): function for function in (
-    threads, threads_backwards, overlapping, masks, paths, code_in_memory, mappings_of_one_file, shared_images, one_image, shared_headers, names_of_one_file,
-    shared_code, section_names, notes_of_one_place, minidump_threads, minidump_modules, minidump_shared_headers, minidump_maps, minidump_streams)}
+    threads, threads_backwards, overlapping, masks, paths, code_in_memory, overlapping_files, mappings_of_one_file, shared_images, one_image, shared_headers,
+    names_of_one_file, shared_code, section_names, notes_of_one_place, minidump_threads, minidump_modules, minidump_shared_headers, minidump_maps, minidump_streams)}
 
 if __name__ == "__main__":
     if len(sys.argv) != 4:

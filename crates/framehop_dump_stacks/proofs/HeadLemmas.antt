@@ -14,25 +14,23 @@ use Rattle.framehop_coredump.specs.MappedFile.{MappedFileView, mapped_file_view}
 use Rattle.framehop_coredump.specs.declared.mapped_file.MappedFile.{MappedFile}
 use Rattle.framehop_memory.specs.Memory.{MemoryView}
 use Rattle.framehop_dump_stacks.specs.CoreDump.{is_beginning, head_by, head_in}
-use Rattle.framehop_dump_stacks.specs.Dump.{MappedCodeView, mapped_code_view, is_of_path, head_among}
-use Rattle.framehop_dump_stacks.specs.Heads.{FileHeadView, file_head_view, file_head_of, kept_at, beginning_head, code_head}
+use Rattle.framehop_dump_stacks.specs.Heads.{FileHeadView, file_head_view, file_head_of, kept_at, beginning_head}
 use Rattle.framehop_dump_stacks.specs.Image.{head_at}
-use Rattle.framehop_dump_stacks.specs.declared.dump.MappedCode.{MappedCode}
 use Rattle.framehop_dump_stacks.specs.declared.heads.FileHead.{FileHead}
 
-or-none : {X : Type 0} (x : Option X) → x ≡ option_or x None
+pub or-none : {X : Type 0} (x : Option X) → x ≡ option_or x None
 or-none None = refl
 or-none (Some x) = refl
 
-some-first : {X : Type 0} (x y : Option X) → is_some x ≡ true → x ≡ option_or x y
+pub some-first : {X : Type 0} (x y : Option X) → is_some x ≡ true → x ≡ option_or x y
 some-first None y is = cc
 some-first (Some a) y is = refl
 
-none-first : {X : Type 0} (x y : Option X) → is_some x ≡ false → y ≡ option_or x y
+pub none-first : {X : Type 0} (x y : Option X) → is_some x ≡ false → y ≡ option_or x y
 none-first None y is = refl
 none-first (Some a) y is = cc
 
-map-or : {X Y : Type 0} (f : X → Y) (a b : Option X) → option_or (option_map f a) (option_map f b) ≡ option_map f (option_or a b)
+pub map-or : {X Y : Type 0} (f : X → Y) (a b : Option X) → option_or (option_map f a) (option_map f b) ≡ option_map f (option_or a b)
 map-or f None b = refl
 map-or f (Some a) b = refl
 
@@ -119,64 +117,4 @@ module _ (by_path : BTreeMap (Bor (List ℕ)) FileHead) (memory : MemoryView) (m
         | inr other ↦
             let here : new ≡ kept_at by_path path = rw other at put in
             here ∙ or-none (kept_at by_path path) ∙ ap (option_or (kept_at by_path path)) (sym (other-path other))
-      ]
-
--- what is kept after one more mapping of code
-pub one-more-code : (code : List MappedCode) (i : ℕ) (d : MappedCode) (path : List ℕ) (old new : Option FileHeadView) → i < length code
-    → new ≡ option_or old (code_head (mapped_code_view (get_or code i d) ∷ []) path)
-    → old ≡ code_head (map mapped_code_view (take i code)) path
-    → new ≡ code_head (map mapped_code_view (take (i + 1) code)) path
-one-more-code code i d path old new within put is =
-    let one = mapped_code_view (get_or code i d) in
-    let before = map mapped_code_view (take i code) in
-    let head : MappedCodeView → FileHeadView = λ code. file_head_of code.head in
-    put
-    ∙ ap (λ kept. option_or kept (code_head (one ∷ []) path)) is
-    ∙ map-or head (find (is_of_path path) before) (find (is_of_path path) (one ∷ []))
-    ∙ ap (option_map head) (sym (find-append (is_of_path path) before (one ∷ [])))
-    ∙ ap (λ some. code_head some path)
-    (sym (map-append mapped_code_view (take i code) (get_or code i d ∷ [])) ∙ ap (map mapped_code_view) (sym (take_more code i d within)))
-
--- what memory has of a file whose code was mapped, by what is kept for its path
-pub code-kept : (code : List MappedCodeView) (path : List ℕ) (kept : Option FileHeadView)
-    → kept ≡ code_head code path → unwrap_or kept (file_head_of []) ≡ file_head_of (head_among code path)
-code-kept code path kept is = rw is (by (find (is_of_path path) code))
-  where
-    by : (found : Option MappedCodeView) → unwrap_or (option_map (λ code. file_head_of code.head) found) (file_head_of []) ≡ file_head_of (unwrap_or (option_map (λ code. code.head) found) [])
-    by None = refl
-    by (Some code) = refl
-
-module _ (by_path : BTreeMap (Bor (List ℕ)) FileHead) (code : MappedCodeView) (path : List ℕ) where
-  other-code : pointwise nat_eq code.path path ≡ false → code_head (code ∷ []) path ≡ None
-  other-code other = rw other refl
-
-  -- code of a path for which something is kept
-  pub code-before : is_some (get_by (λ key. slice_cmp nat_cmp code.path key.now) by_path) ≡ true
-      → kept_at by_path path ≡ option_or (kept_at by_path path) (code_head (code ∷ []) path)
-  code-before has =
-      elim (cases_Bool (pointwise nat_eq code.path path)) [
-        | inl same ↦
-            let e : code.path ≡ path = (bytes_decides code.path path).0 same in
-            let some = some-map file_head_view (get_by (λ key. slice_cmp nat_cmp code.path key.now) by_path) ∙ has in
-            some-first (kept_at by_path path) _ (subst (λ p. is_some (kept_at by_path p) ≡ true) e some)
-        | inr other ↦ or-none (kept_at by_path path) ∙ ap (option_or (kept_at by_path path)) (sym (other-code other))
-      ]
-
-  -- the first of its path
-  pub code-now : (file : FileHeadView) (new : Option FileHeadView)
-      → is_some (get_by (λ key. slice_cmp nat_cmp code.path key.now) by_path) ≡ false
-      → file ≡ file_head_of code.head
-      → new ≡ cond (pointwise nat_eq code.path path) (Some file) (kept_at by_path path)
-      → new ≡ option_or (kept_at by_path path) (code_head (code ∷ []) path)
-  code-now file new has is put =
-      elim (cases_Bool (pointwise nat_eq code.path path)) [
-        | inl same ↦
-            let e : code.path ≡ path = (bytes_decides code.path path).0 same in
-            let none = some-map file_head_view (get_by (λ key. slice_cmp nat_cmp code.path key.now) by_path) ∙ has in
-            let here : new ≡ Some file = rw same at put in
-            let first : code_head (code ∷ []) path ≡ Some (file_head_of code.head) = rw same refl in
-            here ∙ ap (λ f. Some f) is ∙ sym first ∙ none-first (kept_at by_path path) _ (subst (λ p. is_some (kept_at by_path p) ≡ false) e none)
-        | inr other ↦
-            let here : new ≡ kept_at by_path path = rw other at put in
-            here ∙ or-none (kept_at by_path path) ∙ ap (option_or (kept_at by_path path)) (sym (other-code other))
       ]

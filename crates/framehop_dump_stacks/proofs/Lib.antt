@@ -4,8 +4,8 @@ mod MinidumpLemmas
 mod NotedLemmas
 mod ProblemLemmas
 mod EndLemmas
-mod SegmentLemmas
 mod HeadLemmas
+mod FrameHeaderLemmas
 mod FirstMappingLemmas
 mod OrderLemmas
 mod WithinLemmas

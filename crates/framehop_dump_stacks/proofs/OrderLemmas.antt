@@ -3,7 +3,7 @@ use Rattle.std.proofs.Common.{◌≡◌, ℕ, ◌+◌, ◌<◌, Bool, List, [], 
 use Rattle.std.specs.Prelude.{filter, not, ◌||◌, ◌==◌}
 use Rattle.std.proofs.lemmas.List.{at_drop_more, take_more, map-append}
 use Rattle.std.proofs.lemmas.List.Elements.{filter-append}
-use Rattle.framehop_coredump.specs.Thread.{ThreadView as NotedView, thread_view as noted_view}
+use Rattle.framehop_coredump.specs.Thread.{thread_view as noted_view}
 use Rattle.framehop_coredump.specs.declared.thread.Thread.{Thread as NotedThread}
 use Rattle.framehop_dump_stacks.specs.CoreDump.{thread_of, threads_by}
 use Rattle.framehop_dump_stacks.specs.Dump.{ThreadView}

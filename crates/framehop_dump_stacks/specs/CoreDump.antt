@@ -1,6 +1,6 @@
 -- What a core file says of a process (gABI, chapter 5, "Program Loading"; `core(5)`).
 -- Which code may be executed: gABI, chapter 5, "Program Header", p_flags.
-use Rattle.std.specs.Prelude.{ℕ, ◌+◌, ◌-◌, ◌^◌, ◌<◌, ◌≤◌, length, slice_index_or, min, List, [], ◌∷◌, ◌++◌, codes, map, Bool, true, false, not, nat_eq, ◌&&◌, ◌||◌, ◌==◌, if◌then◌else◌, Option, Some, None, option_map, Result, Ok, Err}
+use Rattle.std.specs.Prelude.{ℕ, ◌+◌, ◌-◌, ◌^◌, min, List, [], ◌∷◌, ◌++◌, codes, map, Bool, true, false, not, nat_eq, ◌&&◌, ◌||◌, ◌==◌, if◌then◌else◌, Option, Some, None, option_map, Result, Ok, Err}
 use Rattle.std.specs.Cmp.Lexicographic.{pointwise}
 use Rattle.std.specs.List.{find, flat_map}
 use Rattle.std.specs.Option.{is_some}
@@ -91,11 +91,6 @@ head_in memory files path = head_by memory (find (is_beginning path) files)
 -- where the stated address 0 of a mapped file is, by the segments that its first bytes tell
 abbrev pub base_in_memory : List Segment → MappedFileView → Option ℕ
 base_in_memory segments mapped = base_of segments mapped.offset (mapped.end - mapped.start) mapped.start
-
--- each segment ends before those after it begin
-abbrev pub AreApart : List Segment → Type 0
-AreApart segments = (i j : ℕ) (d : Segment) → i < j → j < length segments →
-    (slice_index_or segments i d).address + (slice_index_or segments i d).size ≤ (slice_index_or segments j d).address
 
 -- A file is mapped to be executed. NT_FILE does not tell, but the segment that has its first address does. gdb writes
 -- no segment for what it does not dump; then the program headers tell that memory has of the file.

@@ -7,27 +7,23 @@ use denote.Ref.{Bor}
 use Rattle.std.specs.List.{find}
 use Rattle.framehop_coredump.specs.MappedFile.{MappedFileView}
 use Rattle.framehop_elf.specs.Segment.{loaded_segments_of}
-use Rattle.framehop_elf.specs.declared.program_header.ProgramHeader.{ProgramHeader}
 use Rattle.framehop_memory.specs.Memory.{MemoryView}
 use Rattle.framehop_memory.specs.declared.segment.Segment.{Segment}
 use Rattle.framehop_dump_stacks.specs.CoreDump.{is_beginning}
-use Rattle.framehop_dump_stacks.specs.Dump.{MappedCodeView, is_of_path}
-use Rattle.framehop_dump_stacks.specs.Image.{head_at, segments_in, build_id_in, eh_frame_header}
+use Rattle.framehop_dump_stacks.specs.Image.{head_at, segments_in, build_id_in}
 use Rattle.framehop_dump_stacks.specs.declared.heads.FileHead.{FileHead}
 
--- the first bytes of a file, and in them the build id, the segments and the one that has `.eh_frame_hdr`
+-- the first bytes of a file, and in them the build id and the segments
 pub record FileHeadView : Type 0 where
   pub head : List ℕ
   pub build_id : List ℕ
   pub segments : List Segment
-  pub eh_frame_header : Option ProgramHeader
 
 abbrev pub file_head_view : FileHead → FileHeadView
 file_head_view file = record {
   head = file.head.now;
   build_id = file.build_id.now;
   segments = file.segments.items;
-  eh_frame_header = file.eh_frame_header;
 }
 
 -- those of a file with these first bytes
@@ -36,7 +32,6 @@ file_head_of head = record {
   head = head;
   build_id = build_id_in head (segments_in head);
   segments = loaded_segments_of (segments_in head);
-  eh_frame_header = eh_frame_header (segments_in head);
 }
 
 -- what is kept for a path
@@ -51,11 +46,3 @@ beginning_head memory files path =
 -- for each path what memory has of the file
 abbrev pub HasBeginnings : MemoryView → List MappedFileView → BTreeMap (Bor (List ℕ)) FileHead → Type 0
 HasBeginnings memory files by_path = (path : List ℕ) → kept_at by_path path ≡ beginning_head memory files path
-
--- at the first mapping of the code of a file
-abbrev pub code_head : List MappedCodeView → List ℕ → Option FileHeadView
-code_head code path = option_map (λ code. file_head_of code.head) (find (is_of_path path) code)
-
--- for each path what memory has of a file whose code was mapped
-abbrev pub HasHeadsOf : List MappedCodeView → BTreeMap (Bor (List ℕ)) FileHead → Type 0
-HasHeadsOf code by_path = (path : List ℕ) → kept_at by_path path ≡ code_head code path

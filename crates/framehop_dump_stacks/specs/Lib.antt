@@ -8,6 +8,7 @@ pub mod SharedHeaders
 pub mod Added
 pub mod CoreDump
 pub mod Heads
+pub mod FrameHeaders
 pub mod ThreadNames
 pub mod Minidump
 pub mod Modules

@@ -1,7 +1,7 @@
 -- The names of signals, and of why they were sent (Linux: include/uapi/asm-generic/signal.h and siginfo.h; x86 and arm64 have
 -- these numbers), and what is told beside them (sigaction(2); `siginfo_layout` of kernel/signal.c). A code, si_code, is a
 -- signed number of 32 bits.
-use Rattle.std.specs.Prelude.{ℕ, ◌-◌, ◌^◌, ◌%◌, List, [], ◌∷◌, ◌++◌, codes, Bool, ◌&&◌, ◌||◌, ◌==◌, nat_lt, Option, Some, None, option_map, if◌then◌else◌}
+use Rattle.std.specs.Prelude.{ℕ, ◌-◌, ◌%◌, List, [], ◌∷◌, ◌++◌, codes, Bool, ◌&&◌, ◌||◌, ◌==◌, nat_lt, Option, Some, None, option_map, if◌then◌else◌}
 use Rattle.std.specs.Fmt.{decimal}
 use Rattle.std.specs.List.{find}
 use Rattle.std.specs.Option.{option_or}

@@ -11,7 +11,6 @@ ghost use Rattle.framehop_dump_stacks.specs.CoreDump.{sent_of, cause_unless, thr
 ghost use Rattle.framehop_dump_stacks.specs.Heads.{file_head_view, file_head_of};
 
 use crate::dump::{Cause, Dump, Kind, MappedCode, Registers, Sent, Signal, Thread};
-use crate::dumped_segments::DumpedSegments;
 use crate::heads::{FileHead, HeadsByPath};
 use crate::image::{head_at, segments_in};
 use crate::order::crashed_first;
@@ -27,6 +26,7 @@ use framehop_coredump::process::{Process, read_process};
 use framehop_coredump::signal_info::SignalInfo;
 use framehop_coredump::thread::{Thread as NotedThread, read_threads};
 use framehop_elf::segment::loaded_segments;
+use framehop_memory::by_address::SegmentsByAddress;
 use framehop_memory::code::CodeSegments;
 use framehop_memory::memory::ProcessMemory;
 use framehop_memory::segment::{Segment, base_avma};
@@ -240,7 +240,7 @@ fn all_code<'a>(
         ≡ code_of (memory_view memory.now) dumped.now (map mapped_file_view files.now)
         ++ vdso_code (memory_view memory.now) dumped.now vdso) }
 {
-    let segments = DumpedSegments::new(dumped);
+    let segments = SegmentsByAddress::new(alloc, dumped)?;
     let mut code = code_of(alloc, memory, &segments, files)?;
     push_vdso(alloc, memory, &segments, vdso, &mut code)?;
     Ok(code)
@@ -250,11 +250,11 @@ fn all_code<'a>(
 fn code_of<'a>(
     alloc: Global,
     memory: &ProcessMemory<'a>,
-    dumped: &DumpedSegments<'_>,
+    dumped: &SegmentsByAddress<'_>,
     files: &[MappedFile<'a>],
 ) -> Result<Vec<MappedCode<'a>>, AllocError>
     ensures { IfOk result (λ code. map mapped_code_view code.items
-        ≡ code_of (memory_view memory.now) dumped.now.segments.now (map mapped_file_view files.now)) }
+        ≡ code_of (memory_view memory.now) dumped.now (map mapped_file_view files.now)) }
 {
     let heads = HeadsByPath::of_files(alloc, memory, files)?;
     let mut code = Vec::new(alloc);
@@ -266,14 +266,14 @@ fn code_of<'a>(
 
 /// Appends a mapped file, of which memory has this much, if it is one of code.
 fn push_code<'a>(
-    dumped: &DumpedSegments<'_>,
+    dumped: &SegmentsByAddress<'_>,
     file: &FileHead<'a>,
     code: &mut Vec<MappedCode<'a>>,
     mapped: MappedFile<'a>,
 ) -> Result<(), AllocError>
     ensures { OnOk result ((head : List ℕ) → file_head_view file.now ≡ file_head_of head
         → map mapped_code_view code.new.items ≡ map mapped_code_view code.old.items
-        ++ code_by dumped.now.segments.now head (mapped_file_view mapped.entry)) }
+        ++ code_by dumped.now head (mapped_file_view mapped.entry)) }
 {
     let segments = file.segments.as_slice();
     if is_code(dumped, segments, mapped) {
@@ -293,8 +293,8 @@ fn push_code<'a>(
 
 /// Returns whether a file is mapped to be executed: as the dumped segment says that has the first address, or else as
 /// the segments say that are told by the file's first bytes.
-fn is_code(dumped: &DumpedSegments<'_>, segments: &[Segment], mapped: MappedFile<'_>) -> bool
-    ensures { result ≡ is_mapped_code dumped.now.segments.now segments.now (mapped_file_view mapped.entry) }
+fn is_code(dumped: &SegmentsByAddress<'_>, segments: &[Segment], mapped: MappedFile<'_>) -> bool
+    ensures { result ≡ is_mapped_code dumped.now segments.now (mapped_file_view mapped.entry) }
 {
     match dumped.at(mapped.start) {
         Some(segment) => segment.is_code,
@@ -314,12 +314,12 @@ fn base_in_memory(segments: &[Segment], mapped: MappedFile<'_>) -> Option<u64>
 fn push_vdso<'a>(
     alloc: Global,
     memory: &ProcessMemory<'a>,
-    dumped: &DumpedSegments<'_>,
+    dumped: &SegmentsByAddress<'_>,
     vdso: Option<u64>,
     code: &mut Vec<MappedCode<'a>>,
 ) -> Result<(), AllocError>
     ensures { OnOk result (map mapped_code_view code.new.items ≡ map mapped_code_view code.old.items
-        ++ vdso_code (memory_view memory.now) dumped.now.segments.now vdso) }
+        ++ vdso_code (memory_view memory.now) dumped.now vdso) }
 {
     let Some(start) = vdso else {
         return Ok(());

@@ -4,13 +4,10 @@ ghost use Rattle.std.specs.Cmp.Lexicographic.{pointwise};
 ghost use Rattle.std.specs.Option.{option_or};
 ghost use Rattle.framehop_coredump.specs.MappedFile.{mapped_file_view};
 ghost use Rattle.framehop_memory.specs.Memory.{memory_view};
-ghost use Rattle.framehop_dump_stacks.specs.Dump.{dump_view, mapped_code_view};
-ghost use Rattle.framehop_dump_stacks.specs.Heads.{file_head_view, file_head_of, kept_at, beginning_head, code_head, HasBeginnings, HasHeadsOf};
+ghost use Rattle.framehop_dump_stacks.specs.Heads.{file_head_view, file_head_of, kept_at, beginning_head, HasBeginnings};
 
-use crate::dump::{Dump, MappedCode};
-use crate::image::{build_id_in, eh_frame_header, head_at, segments_in};
+use crate::image::{build_id_in, head_at, segments_in};
 use framehop_coredump::mapped_file::MappedFile;
-use framehop_elf::program_header::ProgramHeader;
 use framehop_elf::segment::loaded_segments;
 use framehop_memory::memory::ProcessMemory;
 use framehop_memory::segment::Segment;
@@ -26,13 +23,11 @@ pub(crate) struct FileHead<'a> {
     pub(crate) build_id: &'a [u8],
     /// The segments that they tell.
     pub(crate) segments: Vec<Segment>,
-    /// The one of them that has `.eh_frame_hdr`.
-    pub(crate) eh_frame_header: Option<ProgramHeader>,
 }
 
 /// What memory has of files, by their paths.
 #[derive(Drop)]
-pub struct HeadsByPath<'a> {
+pub(crate) struct HeadsByPath<'a> {
     by_path: BTreeMap<&'a [u8], FileHead<'a>>,
     // for a path of which nothing is kept
     nothing: FileHead<'a>,
@@ -66,17 +61,6 @@ impl<'a> HeadsByPath<'a> {
         Ok(heads)
     }
 
-    /// Returns what memory has of the files whose code was mapped, as their first mappings have it.
-    fn of_code(alloc: Global, code: &[MappedCode<'a>]) -> Result<Self, AllocError>
-        ensures { IfOk result (λ heads. HasHeadsOf (map mapped_code_view code.now) heads.by_path) }
-    {
-        let mut heads = HeadsByPath::new(alloc)?;
-        for mapped in code {
-            heads.keep_code(alloc, *mapped)?;
-        }
-        Ok(heads)
-    }
-
     /// Returns what memory has of the file of a path.
     pub(crate) fn file_at(&self, path: &[u8]) -> &FileHead<'a>
         ensures { file_head_view result.now ≡ unwrap_or (kept_at self.now.by_path path.now) (file_head_of []) }
@@ -105,19 +89,6 @@ impl<'a> HeadsByPath<'a> {
         Ok(())
     }
 
-    /// Keeps what memory has of a file whose code was mapped, if nothing is kept for its path.
-    fn keep_code(&mut self, alloc: Global, mapped: MappedCode<'a>) -> Result<(), AllocError>
-        ensures { OnOk result ((path : List ℕ) → kept_at self.new.by_path path
-            ≡ option_or (kept_at self.old.by_path path) (code_head (mapped_code_view mapped.entry ∷ []) path)) }
-    {
-        if self.by_path.contains_key(mapped.path) {
-            return Ok(());
-        }
-        let file = file_head(alloc, mapped.head)?;
-        self.insert(mapped.path, file)?;
-        Ok(())
-    }
-
     /// Keeps what memory has of the file of a path, in the place of what was kept.
     fn insert(&mut self, path: &'a [u8], file: FileHead<'a>) -> Result<(), AllocError>
         ensures { OnOk result ((other : List ℕ) → kept_at self.new.by_path other
@@ -138,13 +109,5 @@ fn file_head<'a>(alloc: Global, head: &'a [u8]) -> Result<FileHead<'a>, AllocErr
         head,
         build_id: build_id_in(head, headers.as_slice()),
         segments,
-        eh_frame_header: eh_frame_header(headers.as_slice()),
     })
-}
-
-/// Returns what memory has of the files whose code was mapped, by their paths.
-pub(crate) fn heads_of<'a>(alloc: Global, dump: &Dump<'a>) -> Result<HeadsByPath<'a>, AllocError>
-    ensures { IfOk result (λ heads. HasHeadsOf (dump_view dump.now).code heads.by_path) }
-{
-    HeadsByPath::of_code(alloc, dump.code.as_slice())
 }

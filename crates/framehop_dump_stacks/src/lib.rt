@@ -4,12 +4,12 @@
 
 pub mod core_dump;
 pub mod dump;
-mod dumped_segments;
 pub mod error;
 pub mod exception;
 pub mod explain;
 mod first_mappings;
-pub mod heads;
+mod frame_headers;
+mod heads;
 pub mod image;
 pub mod machine;
 pub mod minidump;

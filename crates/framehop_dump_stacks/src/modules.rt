@@ -1,17 +1,17 @@
 //! The files whose code a process had mapped, and the modules of their mappings.
-ghost use Rattle.std.specs.Prelude.{◌≡◌, IfOk, IfErr, slice_get};
+ghost use Rattle.std.specs.Prelude.{◌≡◌, None, IfOk, IfErr, slice_get};
 ghost use Rattle.framehop_processes.specs.Process.{HasModules};
 ghost use Rattle.framehop_symbols.specs.Files.{placed_at};
 ghost use Rattle.framehop_symbols.specs.MappedBytes.{mapped_sections_view};
 ghost use Rattle.framehop_dump_stacks.specs.Dump.{mapped_code_view, dump_view, head_of};
-ghost use Rattle.framehop_dump_stacks.specs.Image.{sections_in};
-ghost use Rattle.framehop_dump_stacks.specs.Heads.{HasHeadsOf};
+ghost use Rattle.framehop_dump_stacks.specs.Image.{sections_in, sections_of};
+ghost use Rattle.framehop_dump_stacks.specs.FrameHeaders.{HasHeadersOf};
 ghost use Rattle.framehop_dump_stacks.specs.Ended.{drawn_in, MayEnd};
 ghost use Rattle.framehop_dump_stacks.specs.Modules.{AreFilesOf, base_in, mapping_based, mapping_in, mappings_in, module_with, sections_by, module_at};
 
 use crate::dump::{Dump, MappedCode};
 use crate::error::DumpStacksError;
-use crate::heads::HeadsByPath;
+use crate::frame_headers::FrameHeaders;
 use crate::image::sections_behind;
 use framehop::Module;
 use framehop::generations::Generations;
@@ -42,9 +42,12 @@ pub fn read_files<'m, S: FileSource>(
 pub struct DumpModules<'a, 'm> {
     pub dump: &'a Dump<'m>,
     pub files: &'a Files<'m>,
-    /// What memory has of the files whose code the dump has.
-    pub heads: HeadsByPath<'m>,
-    ghost known: { HasHeadsOf (dump_view dump.now).code heads.by_path },
+    /// Where memory has the unwind data of the files whose code the dump has.
+    pub(crate) headers: FrameHeaders<'m>,
+    /// The module of mappings without unwind data.
+    pub(crate) bare: Module<MappedBytes<'m>>,
+    ghost known: { HasHeadersOf (dump_view dump.now).code headers.by_path },
+    ghost without: { bare ≡ module_with (sections_of None) },
 }
 
 impl<'m> DumpModules<'_, 'm> {
@@ -57,8 +60,8 @@ impl<'m> DumpModules<'_, 'm> {
         ensures { mapped_sections_view result
             ≡ sections_in (dump_view self.now.dump.now).memory (head_of (dump_view self.now.dump.now) path.now) base }
     {
-        let file = self.heads.file_at(path);
-        sections_behind(&self.dump.memory, file.eh_frame_header, base)
+        let header = self.headers.header_at(path);
+        sections_behind(&self.dump.memory, header, base)
     }
 
     /// Returns the unwind sections of a mapping's file, as memory has them.
@@ -82,6 +85,9 @@ impl<'m> DumpModules<'_, 'm> {
             (slice_get self.now.files.now.list.items mapping.now.file) mapping.now.base_avma)) mapping.now) }
     {
         let info = self.sections(mapping);
+        if info.eh_frame.is_none() {
+            return placed_at(&self.bare, mapping);
+        }
         placed_at(&module_with(alloc, info)?, mapping)
     }
 
@@ -94,14 +100,20 @@ impl<'m> DumpModules<'_, 'm> {
         ensures { IfOk result (λ made. made ≡ module_at (dump_view self.now.dump.now) self.now.files.now mapping.now) }
     {
         if !mapping.has_sections {
-            let info = ExplicitModuleSectionInfo::default();
-            return placed_at(&module_with(alloc, info)?, mapping);
+            return placed_at(&self.bare, mapping);
         }
         match self.files.object(mapping.file) {
             Some(object) => placed_at(object.module(), mapping),
             None => self.module_in_memory(alloc, mapping),
         }
     }
+}
+
+/// Returns a module without unwind data that lies at no address.
+pub(crate) fn bare_module<'m>(alloc: Global) -> Result<Module<MappedBytes<'m>>, AllocError>
+    ensures { IfOk result (λ made. made ≡ module_with (sections_of None)) }
+{
+    module_with(alloc, ExplicitModuleSectionInfo::default())
 }
 
 /// Returns a module with these sections that lies at no address.

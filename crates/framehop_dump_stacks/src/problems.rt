@@ -7,12 +7,11 @@ ghost use Rattle.framehop_dump_stacks.specs.Problems.{kind_name, range_end, need
 
 use crate::dump::{Dump, Kind};
 use crate::first_mappings::FirstMappings;
-use crate::heads::heads_of;
 use crate::modules::DumpModules;
 use framehop_frames::line::push_name;
 use framehop_memory::memory::MemoryRange;
 use framehop_processes::Mapping;
-use framehop_symbols::files::{Files, NamedFile};
+use framehop_symbols::files::NamedFile;
 use framehop_symbols::object_file::{FileProblem, ObjectFile};
 use std::alloc::{AllocError, Global};
 
@@ -21,17 +20,16 @@ const FIRST_OF_KERNEL: u64 = 0x8000_0000_0000_0000;
 
 /// Returns what is said of a dump: that its file is cut short, that it is of a 32-bit process of Windows, and of each file of
 /// which nothing was read, that lacks unwind data or names, or whose unwind data is compressed.
-pub fn said_text<'m>(
+pub fn said_text(
     alloc: Global,
-    dump: &Dump<'m>,
-    files: &Files<'m>,
+    modules: &DumpModules<'_, '_>,
     mappings: &[Mapping],
 ) -> Result<Vec<u8>, AllocError>
-    ensures { IfOk result (λ text. IsSaid (dump_view dump.now) files.now mappings.now text.items) }
+    ensures { IfOk result (λ text. IsSaid (dump_view modules.now.dump.now) modules.now.files.now mappings.now text.items) }
 {
-    let text = file_text(alloc, dump)?;
+    let text = file_text(alloc, modules.dump)?;
     let mut said = Vec::from_slice(alloc, text.as_bytes())?;
-    let problems = problems_text(alloc, dump, files, mappings)?;
+    let problems = problems_text(alloc, modules, mappings)?;
     said.extend_from_slice(problems.as_slice())?;
     Ok(said)
 }
@@ -100,20 +98,17 @@ fn wow64_text(wow64: bool) -> &'static str
 
 /// Returns a line for each file of which nothing was read, in the order of the files: its name, why, and whether memory
 /// has its unwind data; and for each that lacks unwind data or names, or whose unwind data is compressed.
-fn problems_text<'m>(
+fn problems_text(
     alloc: Global,
-    dump: &Dump<'m>,
-    files: &Files<'m>,
+    modules: &DumpModules<'_, '_>,
     mappings: &[Mapping],
 ) -> Result<Vec<u8>, AllocError>
-    ensures { IfOk result (λ text. AreProblems (dump_view dump.now) files.now mappings.now text.items) }
+    ensures { IfOk result (λ text. AreProblems (dump_view modules.now.dump.now) modules.now.files.now mappings.now text.items) }
 {
-    let heads = heads_of(alloc, dump)?;
-    let modules = DumpModules { dump, files, heads };
     let first = FirstMappings::new(alloc, mappings)?;
     let mut text = Vec::new(alloc);
-    for file in files.list() {
-        let line = problem_line(alloc, &modules, &first, file)?;
+    for file in modules.files.list() {
+        let line = problem_line(alloc, modules, &first, file)?;
         text.extend_from_slice(line.as_slice())?;
     }
     Ok(text)

@@ -19,10 +19,10 @@ use crate::core_dump::read_core_dump;
 use crate::dump::Dump;
 use crate::error::DumpStacksError;
 use crate::explain::explained_text;
-use crate::heads::heads_of;
+use crate::frame_headers::headers_of;
 use crate::machine::Dumped;
 use crate::minidump::{LoadedModule, dump_in, read_module_files, read_parts, with_code};
-use crate::modules::{DumpModules, map_files, read_files};
+use crate::modules::{DumpModules, bare_module, map_files, read_files};
 use crate::problems::said_text;
 use crate::text::threads_text;
 use framehop::aarch64::UnwinderAarch64;
@@ -172,21 +172,27 @@ fn write_dump<'m, W: Write, E: Write>(
         × Appends (E.contents err.old) (E.contents err.new) said) }
     ensures refused { IfErr result (MayEnd (drawn_in (dump_view dump.now) files.now)) }
 {
-    let heads = heads_of(alloc, dump)?;
-    let maker = DumpModules { dump, files, heads };
+    let headers = headers_of(alloc, dump)?;
+    let bare = bare_module(alloc)?;
+    let modules = DumpModules {
+        dump,
+        files,
+        headers,
+        bare,
+    };
     match dump.machine {
         Machine::X86_64 => write_threads::<
             UnwinderX86_64<MappedBytes<'m>, MayAllocateDuringUnwind>,
             DumpModules<'_, 'm>,
             W,
             E,
-        >(alloc, &maker, dump, files, limit, explain, out, err),
+        >(alloc, &modules, &modules, limit, explain, out, err),
         Machine::Aarch64 => write_threads::<
             UnwinderAarch64<MappedBytes<'m>, MayAllocateDuringUnwind>,
             DumpModules<'_, 'm>,
             W,
             E,
-        >(alloc, &maker, dump, files, limit, explain, out, err),
+        >(alloc, &modules, &modules, limit, explain, out, err),
     }
 }
 
@@ -194,8 +200,7 @@ fn write_dump<'m, W: Write, E: Write>(
 fn write_threads<'m, U: Dumped, M: ModuleMaker<U>, W: Write, E: Write>(
     alloc: Global,
     maker: &M,
-    dump: &Dump<'m>,
-    files: &Files<'m>,
+    modules: &DumpModules<'_, 'm>,
     limit: u32,
     explain: bool,
     out: &mut W,
@@ -205,18 +210,18 @@ where
     U::Cache: Drop,
     U::Module: Drop,
     ensures printed { OnOk result ((shown : List ℕ)
-        × IsShown explain (AreNotesBy U.walker U.begins limit U.is_note (M.module_of maker.now) (dump_view dump.now) files.now)
-        (text_by U.walker U.begins limit (M.module_of maker.now) (dump_view dump.now) files.now) shown
+        × IsShown explain (AreNotesBy U.walker U.begins limit U.is_note (M.module_of maker.now) (dump_view modules.now.dump.now) modules.now.files.now)
+        (text_by U.walker U.begins limit (M.module_of maker.now) (dump_view modules.now.dump.now) modules.now.files.now) shown
         × Appends (W.contents out.old) (W.contents out.new) shown) }
     ensures said { OnOk result ((said : List ℕ)
-        × IsSaid (dump_view dump.now) files.now (mappings_in (dump_view dump.now) files.now) said
+        × IsSaid (dump_view modules.now.dump.now) modules.now.files.now (mappings_in (dump_view modules.now.dump.now) modules.now.files.now) said
         × Appends (E.contents err.old) (E.contents err.new) said) }
-    ensures refused { IfErr result (MayEnd (drawn_in (dump_view dump.now) files.now)) }
+    ensures refused { IfErr result (MayEnd (drawn_in (dump_view modules.now.dump.now) modules.now.files.now)) }
 {
-    let process: Process<U> = map_files(alloc, maker, dump, files)?;
-    let text = shown_text(alloc, dump, files, &process, limit, explain)?;
+    let process: Process<U> = map_files(alloc, maker, modules.dump, modules.files)?;
+    let text = shown_text(alloc, modules.dump, modules.files, &process, limit, explain)?;
     out.write_all(text.as_slice())?;
-    let said = said_text(alloc, dump, files, process.mappings())?;
+    let said = said_text(alloc, modules, process.mappings())?;
     err.write_all(said.as_slice())?;
     Ok(())
 }

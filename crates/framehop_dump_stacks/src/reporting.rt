@@ -15,10 +15,10 @@ ghost use Rattle.framehop_dump_stacks.specs.Report.{stacks_by, stacks_in};
 use crate::core_dump::read_core_dump;
 use crate::dump::Dump;
 use crate::error::DumpStacksError;
-use crate::heads::heads_of;
+use crate::frame_headers::headers_of;
 use crate::machine::Dumped;
 use crate::minidump::{LoadedModule, dump_in, read_module_files, read_parts, with_code};
-use crate::modules::{DumpModules, map_files, read_files};
+use crate::modules::{DumpModules, bare_module, map_files, read_files};
 use crate::problems::said_text;
 use crate::report::{Report, stacks_of};
 use framehop::aarch64::UnwinderAarch64;
@@ -161,8 +161,14 @@ fn report_dump<'m, R: Report, W: Write, E: Write>(
         × IsSaid (dump_view dump.now) files.now (mappings_in (dump_view dump.now) files.now) said
         × Appends (E.contents err.old) (E.contents err.new) said) }
 {
-    let heads = heads_of(alloc, dump)?;
-    let maker = DumpModules { dump, files, heads };
+    let headers = headers_of(alloc, dump)?;
+    let bare = bare_module(alloc)?;
+    let modules = DumpModules {
+        dump,
+        files,
+        headers,
+        bare,
+    };
     match dump.machine {
         Machine::X86_64 => report_threads::<
             UnwinderX86_64<MappedBytes<'m>, MayAllocateDuringUnwind>,
@@ -170,14 +176,14 @@ fn report_dump<'m, R: Report, W: Write, E: Write>(
             R,
             W,
             E,
-        >(alloc, &maker, dump, files, limit, report, out, err),
+        >(alloc, &modules, &modules, limit, report, out, err),
         Machine::Aarch64 => report_threads::<
             UnwinderAarch64<MappedBytes<'m>, MayAllocateDuringUnwind>,
             DumpModules<'_, 'm>,
             R,
             W,
             E,
-        >(alloc, &maker, dump, files, limit, report, out, err),
+        >(alloc, &modules, &modules, limit, report, out, err),
     }
 }
 
@@ -185,8 +191,7 @@ fn report_dump<'m, R: Report, W: Write, E: Write>(
 fn report_threads<'m, U: Dumped, M: ModuleMaker<U>, R: Report, W: Write, E: Write>(
     alloc: Global,
     maker: &M,
-    dump: &Dump<'m>,
-    files: &Files<'m>,
+    modules: &DumpModules<'_, 'm>,
     limit: u32,
     report: &R,
     out: &mut W,
@@ -195,19 +200,25 @@ fn report_threads<'m, U: Dumped, M: ModuleMaker<U>, R: Report, W: Write, E: Writ
 where
     U::Cache: Drop,
     U::Module: Drop,
-    ensures printed { OnOk result ((text : List ℕ) × R.makes report.now (dump_view dump.now) files.now
-        (mappings_in (dump_view dump.now) files.now)
-        (stacks_by U.walker U.begins limit (M.module_of maker.now) (dump_view dump.now) files.now) text
+    ensures printed { OnOk result ((text : List ℕ) × R.makes report.now (dump_view modules.now.dump.now) modules.now.files.now
+        (mappings_in (dump_view modules.now.dump.now) modules.now.files.now)
+        (stacks_by U.walker U.begins limit (M.module_of maker.now) (dump_view modules.now.dump.now) modules.now.files.now) text
         × Appends (W.contents out.old) (W.contents out.new) text) }
     ensures said { OnOk result ((said : List ℕ)
-        × IsSaid (dump_view dump.now) files.now (mappings_in (dump_view dump.now) files.now) said
+        × IsSaid (dump_view modules.now.dump.now) modules.now.files.now (mappings_in (dump_view modules.now.dump.now) modules.now.files.now) said
         × Appends (E.contents err.old) (E.contents err.new) said) }
 {
-    let process: Process<U> = map_files(alloc, maker, dump, files)?;
-    let stacks = stacks_of(alloc, dump, files, &process, limit)?;
-    let text = report.report(alloc, dump, files, process.mappings(), stacks.as_slice())?;
+    let process: Process<U> = map_files(alloc, maker, modules.dump, modules.files)?;
+    let stacks = stacks_of(alloc, modules.dump, modules.files, &process, limit)?;
+    let text = report.report(
+        alloc,
+        modules.dump,
+        modules.files,
+        process.mappings(),
+        stacks.as_slice(),
+    )?;
     out.write_all(text.as_slice())?;
-    let said = said_text(alloc, dump, files, process.mappings())?;
+    let said = said_text(alloc, modules, process.mappings())?;
     err.write_all(said.as_slice())?;
     Ok(())
 }

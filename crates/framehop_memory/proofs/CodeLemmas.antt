@@ -8,8 +8,9 @@ use Rattle.framehop_memory.specs.declared.segment.Segment.{Segment}
 use Rattle.framehop_memory.specs.Range.{has_available}
 use Rattle.framehop_memory.specs.Code.{has_address, range_of, is_code_in, code_ranges}
 
-covered-same : (address : ℕ) (segment : Segment) → has_available None address 1 (range_of segment) ≡ has_address address segment
-covered-same address segment = grind (arith, nat_tests)
+-- a range has an address where the segment has it, wherever a file has its bytes
+pub covered-same : (address : ℕ) (segment : Segment) (offset : ℕ) → has_available None address 1 (record { start = segment.address; size = segment.size; offset = offset }) ≡ has_address address segment
+covered-same address segment offset = grind (arith, nat_tests)
 
 pub code-covered : (address : ℕ) (segments : List Segment) → is_some (find (has_available None address 1) (code_ranges segments)) ≡ is_code_in segments address
 code-covered address [] = refl
@@ -17,10 +18,10 @@ code-covered address (s ∷ segments) =
     elim (cases_Bool s.is_code) [
       | inl code ↦ elim (cases_Bool (has_address address s)) [
         | inl inside ↦
-            let there : has_available None address 1 (range_of s) ≡ true = covered-same address s ∙ inside in
+            let there : has_available None address 1 (range_of s) ≡ true = covered-same address s 0 ∙ inside in
             rw (code, there, inside) refl
         | inr outside ↦
-            let there : has_available None address 1 (range_of s) ≡ false = covered-same address s ∙ outside in
+            let there : has_available None address 1 (range_of s) ≡ false = covered-same address s 0 ∙ outside in
             rw (code, there, outside) (code-covered address segments)
       ]
       | inr data_only ↦ rw data_only (code-covered address segments)

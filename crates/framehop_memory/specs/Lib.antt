@@ -6,6 +6,7 @@ pub mod Memory
 pub mod Parts
 pub mod Segment
 pub mod Code
+pub mod ByAddress
 pub mod Stairs
 pub mod SizedRange
 pub mod RangeTree

@@ -2,6 +2,7 @@
 //! loaded into memory, whatever format they are of.
 #![tactic(auto)]
 
+pub mod by_address;
 pub mod code;
 pub mod left_out;
 pub mod memory;

@@ -9,4 +9,4 @@ use Rattle.framehop_dump_stacks.proofs.core_dump.code_of.Given as goal
 abbrev pub invariant-loop-mapped : goal.invariant-loop-mapped
 invariant-loop-mapped l =
     map mapped_code_view l.code.items
-    ≡ flat_map (λ mapped. code_if (memory_view l.memory) l.dumped.segments.now (map mapped_file_view l.files) (mapped_file_view mapped)) (take l.mapped-index l.files)
+    ≡ flat_map (λ mapped. code_if (memory_view l.memory) l.dumped (map mapped_file_view l.files) (mapped_file_view mapped)) (take l.mapped-index l.files)

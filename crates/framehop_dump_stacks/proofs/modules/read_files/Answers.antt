@@ -1,4 +1,4 @@
-use Rattle.std.proofs.Common.{◌≡◌, ◌<◌, ℕ, List, [], map, drop, length, refl, sym, subst, ap, arith}
+use Rattle.std.proofs.Common.{◌≡◌, ◌<◌, ℕ, List, [], map, drop, length, refl, sym, subst, arith}
 use Rattle.std.proofs.lemmas.List.{at_drop_all}
 use Rattle.framehop_dump_stacks.proofs.DumpLemmas.{code-left}
 use Rattle.framehop_dump_stacks.specs.Added.{AreAdded}
