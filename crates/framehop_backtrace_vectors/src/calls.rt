@@ -1,6 +1,7 @@
 //! Instructions by their bytes, as GNU's disassembler prints them, and whether they are calls.
-use crate::dump::dump_of;
+use crate::dump::{CODE, dump_of};
 use framehop_backtrace::call::{is_after_call_aarch64, is_after_call_x86_64};
+use std::alloc::{AllocError, Global};
 use std::test::Fail;
 
 const X86_64: [(&'static [u8], bool); 19] = [
@@ -48,13 +49,25 @@ const AARCH64: [(&'static [u8], bool); 8] = [
     (&[0x00, 0x94], false),
 ];
 
+/// Whether an address of x86_64 is right after a call, where memory ends with this code.
+fn is_call_x86_64(alloc: Global, code: &[u8]) -> Result<bool, AllocError> {
+    let size = code.len() as u64;
+    let memory = dump_of(alloc, code, size)?;
+    Ok(is_after_call_x86_64(&memory, CODE.saturating_add(size)))
+}
+
+/// Whether one of aarch64 is.
+fn is_call_aarch64(alloc: Global, code: &[u8]) -> Result<bool, AllocError> {
+    let size = code.len() as u64;
+    let memory = dump_of(alloc, code, size)?;
+    Ok(is_after_call_aarch64(&memory, CODE.saturating_add(size)))
+}
+
 #[test]
 fn knows_calls_of_x86_64(rt: HostRuntime) -> Result<(), Fail> {
     for (code, is_call) in X86_64 {
-        let size = code.len() as u64;
-        let memory = dump_of(rt.alloc(), code, 0x401000, size, 0x7000)?;
-        let end = 0x401000u64.saturating_add(size);
-        assert_eq!(rt; is_after_call_x86_64(&memory, end), is_call, "{code:?}");
+        let found = is_call_x86_64(rt.alloc(), code)?;
+        assert!(rt; found == is_call, "{code:?}");
     }
     Ok(())
 }
@@ -62,10 +75,8 @@ fn knows_calls_of_x86_64(rt: HostRuntime) -> Result<(), Fail> {
 #[test]
 fn knows_calls_of_aarch64(rt: HostRuntime) -> Result<(), Fail> {
     for (code, is_call) in AARCH64 {
-        let size = code.len() as u64;
-        let memory = dump_of(rt.alloc(), code, 0x401000, size, 0x7000)?;
-        let end = 0x401000u64.saturating_add(size);
-        assert_eq!(rt; is_after_call_aarch64(&memory, end), is_call, "{code:?}");
+        let found = is_call_aarch64(rt.alloc(), code)?;
+        assert!(rt; found == is_call, "{code:?}");
     }
     Ok(())
 }

@@ -53,28 +53,55 @@ impl<'a> CodeMemory for Dump<'a> {
     }
 }
 
-/// Returns the process that has these bytes from two addresses on, code at the first.
-pub(crate) fn dump_of(
-    alloc: Global,
-    file: &[u8],
-    code: u64,
-    code_size: u64,
-    stack: u64,
-) -> Result<Dump<'_>, AllocError> {
-    let mut ranges = Vec::new(alloc);
-    ranges.push(MemoryRange {
-        start: code,
+/// Where the code and the stack begin, and the size of the code.
+pub(crate) const CODE: u64 = 0x401000;
+
+pub(crate) const CODE_SIZE: u64 = 0x200;
+
+pub(crate) const STACK: u64 = 0x7000;
+
+/// The size of a file of code and stack.
+pub(crate) const FILE_SIZE: usize = 0xa00;
+
+/// Returns the process that has the bytes of a file from two addresses on: code, so many bytes, and the stack.
+pub(crate) fn dump_of(alloc: Global, file: &[u8], code_size: u64) -> Result<Dump<'_>, AllocError> {
+    let code = MemoryRange {
+        start: CODE,
         size: code_size,
         offset: 0,
-    })?;
-    ranges.push(MemoryRange {
-        start: stack,
+    };
+    let stack = MemoryRange {
+        start: STACK,
         size: (file.len() as u64).saturating_sub(code_size),
         offset: code_size,
-    })?;
+    };
+    let ranges = Vec::from_slice(alloc, &[code, stack])?;
     Ok(Dump {
         memory: ProcessMemory::new(alloc, file, ranges)?,
-        code_start: code,
-        code_end: code.saturating_add(code_size),
+        code_start: CODE,
+        code_end: CODE.saturating_add(code_size),
     })
+}
+
+/// Returns code and stack that have bytes by their offsets and words by their addresses, and are else 0.
+pub(crate) fn file_of(code: &[(usize, &[u8])], words: &[(u64, u64)]) -> [u8; FILE_SIZE] {
+    let mut file = [0; FILE_SIZE];
+    for (offset, bytes) in code {
+        put(&mut file, *offset, bytes);
+    }
+    for (address, word) in words {
+        let offset = address.saturating_sub(STACK).saturating_add(CODE_SIZE);
+        put(&mut file, offset as usize, &word.to_le_bytes());
+    }
+    file
+}
+
+/// Writes bytes at an offset, if they fit.
+fn put(file: &mut [u8], offset: usize, bytes: &[u8]) {
+    let end = offset.saturating_add(bytes.len());
+    if let Some(places) = file.get_mut(offset..end) {
+        for (place, byte) in places.iter_mut().zip(bytes) {
+            *place = *byte;
+        }
+    }
 }

@@ -10,4 +10,8 @@ mod dump;
 #[cfg(test)]
 mod sources;
 #[cfg(test)]
+mod traces;
+#[cfg(test)]
+mod unwinders;
+#[cfg(test)]
 mod x86_64;

@@ -1,16 +1,18 @@
 //! Rows of two sources: `.eh_frame`, and the `.debug_frame` of a file of its own.
-use crate::dump::dump_of;
+use crate::dump::{CODE_SIZE, dump_of, file_of};
+use crate::traces::{FrameRow, frame_row};
+use crate::unwinders::{LentX86_64, Sections, module_of, sections_of, unwinder_x86_64};
+use crate::x86_64::backtrace_in;
 use framehop::unwind_by_data::Lookup;
-use framehop::x86_64::{CacheX86_64, UnwindRegsX86_64, UnwinderX86_64};
-use framehop::{ExplicitModuleSectionInfo, Generations, Module, Unwinder};
-use framehop_backtrace::x86_64::all_columns;
-use framehop_backtrace::{FoundBy, Frame, OrElse, RowFinding, Rows, backtrace, row_in_module};
+use framehop::x86_64::{UnwindRegsX86_64, UnwinderX86_64};
+use framehop::{Generations, Module, Unwinder};
+use framehop_backtrace::{FoundBy, OrElse, RowFinding, Rows, row_in_module};
 use framehop_cfi::context::UnwindContext;
 use framehop_cfi::rule::CfaRule;
 use framehop_cfi::storage::StoreOnHeap;
 use framehop_core::FrameAddress;
 use framehop_core::x86_64::ArchX86_64;
-use std::alloc::Global;
+use std::alloc::{AllocError, Global};
 use std::test::Fail;
 
 /// An `.eh_frame` at 0x402000: a CIE, and an FDE for 0x401000 to 0x401040, whose CFA is rsp + 32.
@@ -32,155 +34,154 @@ const DEBUG_FRAME: &'static [u8] = &[
     0x0e, 0x18, 0x00, 0x00, 0x00, 0x00, 0x00, 0x00,
 ];
 
-/// Returns the module of the program, with the sections of a file.
-fn module_of(
-    alloc: Global,
-    eh_frame: Option<&'static [u8]>,
-    debug_frame: Option<&'static [u8]>,
-) -> Result<Module<&'static [u8]>, Fail> {
-    let sections = ExplicitModuleSectionInfo {
-        base_svma: 0x400000,
-        eh_frame,
-        eh_frame_svma: Some(0x402000..0x402034),
-        debug_frame,
-        ..ExplicitModuleSectionInfo::default()
-    };
-    let name = String::from_str(alloc, "program")?;
-    Ok(Module::new(alloc, name, 0x401000..0x401200, 0x400000, sections)?)
+/// Returns the sections of the program's file.
+fn program() -> Sections {
+    sections_of(0x400000, Some(EH_FRAME), 0x402000..0x402034, None)
 }
 
-/// Returns an unwinder with that module.
-fn unwinder_of(
-    alloc: Global,
-    generations: &mut Generations,
-    module: Module<&'static [u8]>,
-) -> Result<UnwinderX86_64<&'static [u8]>, Fail> {
-    let mut unwinder = UnwinderX86_64::new(alloc, generations)?;
-    if unwinder.add_module(module, generations).is_err() {
-        return Err(Fail::from("not added"));
-    }
-    Ok(unwinder)
+/// Returns those of its debug file.
+fn debug_file() -> Sections {
+    sections_of(0x400000, None, 0x402000..0x402034, Some(DEBUG_FRAME))
 }
 
-/// Returns the CFA's distance from rsp (in bytes) in the row of an instruction pointer, if it has one.
-fn cfa_offset<W: Rows>(alloc: Global, rows: &W, pc: u64) -> Result<Option<i64>, Fail> {
+/// Returns unwinders with the module of the program's file, and with that of its debug file.
+fn both_sources(alloc: Global) -> Result<(LentX86_64, LentX86_64), Fail> {
+    let mut generations = Generations::new();
+    let first = unwinder_x86_64(alloc, &mut generations, program())?;
+    let second = unwinder_x86_64(alloc, &mut generations, debug_file())?;
+    Ok((first, second))
+}
+
+/// What a source has for a frame: nothing, or an FDE, and the CFA's distance from rsp (in bytes) if it has a row.
+type Found = Option<Option<i64>>;
+
+/// Returns what rows have for an instruction pointer.
+fn found_by<W: Rows>(alloc: Global, rows: &W, pc: u64) -> Result<Found, AllocError> {
     let mut context = UnwindContext::<StoreOnHeap>::new_in(alloc)?;
     let address = FrameAddress::from_instruction_pointer(pc);
     match rows.row_at(&mut context, address)? {
-        RowFinding::Row(_) => match *context.row().cfa() {
-            CfaRule::RegisterAndOffset { offset, .. } => Ok(Some(offset)),
-            CfaRule::Expression(_) => Err(Fail::from("an expression")),
-        },
-        RowFinding::Uncovered | RowFinding::NoRow => Ok(None),
+        RowFinding::Row(_) => Ok(Some(cfa_offset(&context))),
+        RowFinding::Uncovered => Ok(Some(None)),
+        RowFinding::NoRow => Ok(None),
     }
+}
+
+/// Returns the CFA's distance from its register in a row, or nothing for an expression.
+fn cfa_offset(context: &UnwindContext<StoreOnHeap>) -> Option<i64> {
+    match *context.row().cfa() {
+        CfaRule::RegisterAndOffset { offset, .. } => Some(offset),
+        CfaRule::Expression(_) => None,
+    }
+}
+
+/// An instruction pointer, and what is found by the program's file, by its debug file, and by both.
+const FOUND: [(u64, [Found; 3]); 3] = [
+    (0x401004, [Some(Some(32)), Some(Some(16)), Some(Some(32))]),
+    (0x4010d0, [Some(None), Some(Some(24)), Some(Some(24))]),
+    (0x401044, [Some(None), Some(None), Some(None)]),
+];
+
+/// Returns what is found by two sources, and by both.
+fn found_by_each(
+    alloc: Global,
+    first: &LentX86_64,
+    second: &LentX86_64,
+    pc: u64,
+) -> Result<[Found; 3], AllocError> {
+    Ok([
+        found_by(alloc, first, pc)?,
+        found_by(alloc, second, pc)?,
+        found_by(alloc, &OrElse { first, second }, pc)?,
+    ])
+}
+
+/// Whether all rows of the table are found.
+fn finds_all(alloc: Global, first: &LentX86_64, second: &LentX86_64) -> Result<bool, AllocError> {
+    for (pc, expected) in FOUND {
+        if found_by_each(alloc, first, second, pc)? != expected {
+            return Ok(false);
+        }
+    }
+    Ok(true)
 }
 
 #[test]
 fn asks_a_second_source(rt: HostRuntime) -> Result<(), Fail> {
-    let alloc = rt.alloc();
-    let mut generations = Generations::new();
-    let eh_frame = module_of(alloc, Some(EH_FRAME), None)?;
-    let debug_frame = module_of(alloc, None, Some(DEBUG_FRAME))?;
-    let first = unwinder_of(alloc, &mut generations, eh_frame)?;
-    let second = unwinder_of(alloc, &mut generations, debug_frame)?;
-    for (pc, by_first, by_second, by_both) in [
-        (0x401004, Some(32), Some(16), Some(32)),
-        (0x4010d0, None, Some(24), Some(24)),
-        (0x401044, None, None, None),
-    ] {
-        assert_eq!(rt; cfa_offset(alloc, &first, pc)?, by_first);
-        assert_eq!(rt; cfa_offset(alloc, &second, pc)?, by_second);
-        let both = OrElse {
-            first: &first,
-            second: &second,
-        };
-        assert_eq!(rt; cfa_offset(alloc, &both, pc)?, by_both);
-    }
+    let (first, second) = both_sources(rt.alloc())?;
+    assert!(rt; finds_all(rt.alloc(), &first, &second)?);
     Ok(())
+}
+
+/// Whether an FDE of a first source, which does not cover an address, is found although a second source has nothing, and
+/// nothing is found by the second.
+fn keeps_what_is_found(
+    alloc: Global,
+    first: &LentX86_64,
+    second: &LentX86_64,
+) -> Result<bool, AllocError> {
+    let found = found_by_each(alloc, first, second, 0x4010d0)?;
+    let turned = found_by_each(alloc, second, first, 0x4010d0)?;
+    Ok(found == [Some(None), None, Some(None)] && turned == [None, Some(None), None])
 }
 
 #[test]
 fn keeps_what_the_first_source_has_found(rt: HostRuntime) -> Result<(), Fail> {
-    let alloc = rt.alloc();
     let mut generations = Generations::new();
-    let eh_frame = module_of(alloc, Some(EH_FRAME), None)?;
-    let first = unwinder_of(alloc, &mut generations, eh_frame)?;
-    let second: UnwinderX86_64<&'static [u8]> = UnwinderX86_64::new(alloc, &mut generations)?;
-    let mut context = UnwindContext::<StoreOnHeap>::new_in(alloc)?;
-    let address = FrameAddress::from_instruction_pointer(0x4010d0);
-    let both = OrElse {
-        first: &first,
-        second: &second,
-    };
-    let found = both.row_at(&mut context, address)?;
-    assert!(rt; matches!(found, RowFinding::Uncovered));
-    let turned = OrElse {
-        first: &second,
-        second: &first,
-    };
-    let found = turned.row_at(&mut context, address)?;
-    assert!(rt; matches!(found, RowFinding::NoRow));
+    let first = unwinder_x86_64(rt.alloc(), &mut generations, program())?;
+    let second = UnwinderX86_64::new(rt.alloc(), &mut generations)?;
+    assert!(rt; keeps_what_is_found(rt.alloc(), &first, &second)?);
     Ok(())
+}
+
+/// Returns the first caller by two sources, where the return address at 0x7010 is 0x401010.
+fn caller_by_both(
+    alloc: Global,
+    first: &LentX86_64,
+    second: &LentX86_64,
+) -> Result<Option<FrameRow>, AllocError> {
+    let file = file_of(&[], &[(0x7010, 0x401010)]);
+    let memory = dump_of(alloc, &file, CODE_SIZE)?;
+    let regs = UnwindRegsX86_64::new(0x4010d0, 0x7000, 0x7ff0);
+    let both = OrElse { first, second };
+    let found = backtrace_in(alloc, first, &both, &memory, regs, 2)?;
+    Ok(frame_row(&found, 1))
 }
 
 #[test]
 fn walks_by_two_sources(rt: HostRuntime) -> Result<(), Fail> {
-    let alloc = rt.alloc();
-    let mut generations = Generations::new();
-    let eh_frame = module_of(alloc, Some(EH_FRAME), None)?;
-    let debug_frame = module_of(alloc, None, Some(DEBUG_FRAME))?;
-    let unwinder = unwinder_of(alloc, &mut generations, eh_frame)?;
-    let second = unwinder_of(alloc, &mut generations, debug_frame)?;
-    let rows = OrElse {
-        first: &unwinder,
-        second: &second,
-    };
-    // 512 bytes of code, and the stack: the return address at 0x7010 is 0x401010
-    let mut file = Vec::new(alloc);
-    for at in 0u64..0x220 {
-        file.push(match at {
-            0x210 | 0x211 => 0x10,
-            0x212 => 0x40,
-            _ => 0,
-        })?;
-    }
-    let memory = dump_of(alloc, file.as_slice(), 0x401000, 0x200, 0x7000)?;
-    let mut cache = CacheX86_64::new(alloc)?;
-    let mut context = UnwindContext::<StoreOnHeap>::new_in(alloc)?;
-    let regs = UnwindRegsX86_64::new(0x4010d0, 0x7000, 0x7ff0);
-    let first = Frame::first(regs.ip(), all_columns(&regs), regs);
-    let found = backtrace(
-        alloc,
-        &unwinder,
-        &rows,
-        &mut context,
-        &mut cache,
-        &memory,
-        first,
-        2,
-    )?;
-    let caller = found.frames.as_slice().get(1).ok_or("no caller")?;
-    assert_eq!(rt; caller.address.address(), 0x401010);
-    assert_eq!(rt; caller.found, FoundBy::Cfi);
+    let (first, second) = both_sources(rt.alloc())?;
+    let caller = caller_by_both(rt.alloc(), &first, &second)?;
+    assert!(rt; caller == Some((0x401010, true, FoundBy::Cfi)));
     Ok(())
+}
+
+/// Whether a module has a row for a relative address of a first frame.
+fn has_row(
+    module: &Module<&'static [u8]>,
+    context: &mut UnwindContext<StoreOnHeap>,
+    relative_address: u32,
+) -> Result<bool, AllocError> {
+    let lookup = Lookup {
+        relative_address,
+        is_first_frame: true,
+    };
+    let found = row_in_module::<&'static [u8], ArchX86_64, StoreOnHeap>(module, context, lookup)?;
+    Ok(matches!(found, RowFinding::Row(_)))
+}
+
+/// Whether the module of the debug file has a row for each of three relative addresses of first frames.
+fn have_rows(alloc: Global) -> Result<[bool; 3], Fail> {
+    let module = module_of(alloc, debug_file())?;
+    let mut context = UnwindContext::<StoreOnHeap>::new_in(alloc)?;
+    let mut found = [false; 3];
+    for (place, relative_address) in found.iter_mut().zip([0x1004, 0x1040, 0x10d0]) {
+        *place = has_row(&module, &mut context, relative_address)?;
+    }
+    Ok(found)
 }
 
 #[test]
 fn finds_rows_of_a_module(rt: HostRuntime) -> Result<(), Fail> {
-    let alloc = rt.alloc();
-    let module = module_of(alloc, None, Some(DEBUG_FRAME))?;
-    let mut context = UnwindContext::<StoreOnHeap>::new_in(alloc)?;
-    for (relative_address, is_row) in [(0x1004, true), (0x1040, false), (0x10d0, true)] {
-        let lookup = Lookup {
-            relative_address,
-            is_first_frame: true,
-        };
-        let found = row_in_module::<&'static [u8], ArchX86_64, StoreOnHeap>(
-            &module,
-            &mut context,
-            lookup,
-        )?;
-        assert_eq!(rt; matches!(found, RowFinding::Row(_)), is_row);
-    }
+    assert!(rt; have_rows(rt.alloc())? == [true, false, true]);
     Ok(())
 }

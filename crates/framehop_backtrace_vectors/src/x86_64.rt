@@ -1,23 +1,16 @@
 //! Stacks of x86_64.
-use crate::dump::dump_of;
+use crate::dump::{CODE_SIZE, Dump, dump_of, file_of};
+use crate::traces::{ColumnRow, FrameRow, frame_row, has_columns, is_trace};
+use crate::unwinders::{LentX86_64, sections_of, unwinder_x86_64};
 use framehop::x86_64::{CacheX86_64, UnwindRegsX86_64, UnwinderX86_64};
-use framehop::{ExplicitModuleSectionInfo, Generations, Module, Unwinder};
+use framehop::{Generations, SectionBytes, Unwinder};
 use framehop_backtrace::x86_64::all_columns;
-use framehop_backtrace::{BacktraceEnd, FoundBy, Frame, StackTrace, backtrace};
+use framehop_backtrace::{BacktraceEnd, FoundBy, Frame, Rows, StackTrace, backtrace};
 use framehop_cfi::context::UnwindContext;
-use framehop_cfi::rule::Register;
 use framehop_cfi::storage::StoreOnHeap;
-use framehop_core::FrameAddress;
 use framehop_core::x86_64::Reg;
 use std::alloc::{AllocError, Global};
 use std::test::Fail;
-
-/// Where the code and the stack begin, and the size of the code.
-const CODE: u64 = 0x401000;
-
-const CODE_SIZE: u64 = 0x200;
-
-const STACK: u64 = 0x7000;
 
 /// An `.eh_frame` at 0x402000: a CIE, an FDE for 0x401000 to 0x401040, whose CFA is rsp + 32 with rbx at the CFA - 24, and
 /// one for 0x401080 to 0x4010c0 without a return address.
@@ -29,84 +22,73 @@ const EH_FRAME: &'static [u8] = &[
     0x00, 0x07, 0x10, 0x00, 0x00, 0x00, 0x00, 0x00, 0x00, 0x00, 0x00, 0x00,
 ];
 
-/// `__restore_rt`
-const RESTORE_RT: [u8; 9] = [0x48, 0xc7, 0xc0, 0x0f, 0x00, 0x00, 0x00, 0x0f, 0x05];
+/// Code by its offsets: two calls, which end at 0x401010 and at 0x401030, and `__restore_rt`.
+const CODE_PIECES: [(usize, &[u8]); 3] = [
+    // call rel32
+    (0x0b, &[0xe8]),
+    // call *%rax
+    (0x2e, &[0xff, 0xd0]),
+    (
+        0x100,
+        &[0x48, 0xc7, 0xc0, 0x0f, 0x00, 0x00, 0x00, 0x0f, 0x05],
+    ),
+];
 
-/// Returns code and stack: a call that ends at 0x401010, the trampoline at 0x401100, and these words of the stack.
-fn file_of(alloc: Global, words: &[(u64, u64)]) -> Result<Vec<u8>, AllocError> {
-    let mut file = Vec::new(alloc);
-    for at in 0u64..0x800 {
-        file.push(match at {
-            // call rel32
-            0x0b => 0xe8,
-            // call *%rax, which ends at 0x401030
-            0x2e => 0xff,
-            0x2f => 0xd0,
-            _ => 0,
-        })?;
-    }
-    for (at, byte) in RESTORE_RT.iter().enumerate() {
-        set(&mut file, 0x100usize.saturating_add(at), *byte);
-    }
-    for (address, word) in words {
-        let offset = (address.saturating_sub(STACK) as usize).saturating_add(CODE_SIZE as usize);
-        for (at, byte) in word.to_le_bytes().iter().enumerate() {
-            set(&mut file, offset.saturating_add(at), *byte);
-        }
-    }
-    Ok(file)
+/// Returns an unwinder that has the program.
+fn unwinder(alloc: Global) -> Result<LentX86_64, Fail> {
+    let sections = sections_of(0x400000, Some(EH_FRAME), 0x402000..0x40204c, None);
+    unwinder_x86_64(alloc, &mut Generations::new(), sections)
 }
 
-/// Sets a byte of the file.
-fn set(file: &mut Vec<u8>, at: usize, byte: u8) {
-    if let Some(place) = file.get_mut(at) {
-        *place = byte;
-    }
+/// Returns the backtrace of a process by an unwinder and by rows, from these registers on.
+pub(crate) fn backtrace_in<D: SectionBytes + Drop, W: Rows>(
+    alloc: Global,
+    unwinder: &UnwinderX86_64<D>,
+    rows: &W,
+    memory: &Dump<'_>,
+    regs: UnwindRegsX86_64,
+    limit: u32,
+) -> Result<StackTrace<UnwindRegsX86_64>, AllocError> {
+    let mut cache = CacheX86_64::new(alloc)?;
+    let mut context = UnwindContext::<StoreOnHeap>::new_in(alloc)?;
+    let first = Frame::first(regs.ip(), all_columns(&regs), regs);
+    backtrace(
+        alloc,
+        unwinder,
+        rows,
+        &mut context,
+        &mut cache,
+        memory,
+        first,
+        limit,
+    )
 }
 
-/// Returns the backtrace of a stack with these words from these registers on.
+/// Returns the same of a stack with these words.
 fn backtrace_of(
     alloc: Global,
     words: &[(u64, u64)],
     regs: UnwindRegsX86_64,
     limit: u32,
 ) -> Result<StackTrace<UnwindRegsX86_64>, Fail> {
-    let mut generations = Generations::new();
-    let mut unwinder: UnwinderX86_64<&'static [u8]> = UnwinderX86_64::new(alloc, &mut generations)?;
-    let sections = ExplicitModuleSectionInfo {
-        base_svma: 0x400000,
-        eh_frame: Some(EH_FRAME),
-        eh_frame_svma: Some(0x402000..0x40204c),
-        ..ExplicitModuleSectionInfo::default()
-    };
-    let name = String::from_str(alloc, "program")?;
-    let module = Module::new(alloc, name, 0x401000..0x401200, 0x400000, sections)?;
-    if unwinder.add_module(module, &mut generations).is_err() {
-        return Err(Fail::from("not added"));
-    }
-    let file = file_of(alloc, words)?;
-    let memory = dump_of(alloc, file.as_slice(), CODE, CODE_SIZE, STACK)?;
-    let mut cache = CacheX86_64::new(alloc)?;
-    let mut context = UnwindContext::<StoreOnHeap>::new_in(alloc)?;
-    let first = Frame::first(regs.ip(), all_columns(&regs), regs);
-    Ok(backtrace(
-        alloc,
-        &unwinder,
-        unwinder.inner(),
-        &mut context,
-        &mut cache,
-        &memory,
-        first,
-        limit,
-    )?)
+    let unwinder = unwinder(alloc)?;
+    let file = file_of(&CODE_PIECES, words);
+    let memory = dump_of(alloc, &file, CODE_SIZE)?;
+    Ok(backtrace_in(alloc, &unwinder, unwinder.inner(), &memory, regs, limit)?)
 }
 
-/// Returns the addresses and the kinds of frames.
-fn told(found: &StackTrace<UnwindRegsX86_64>, at: usize) -> Option<(FrameAddress, FoundBy)> {
-    match found.frames.as_slice().get(at) {
-        Some(frame) => Some((frame.address, frame.found)),
-        None => None,
-    }
+/// How a backtrace ended, how many frames it has, and the first caller.
+type Outline = (BacktraceEnd, usize, Option<FrameRow>);
+
+/// Returns the outline of the same backtrace.
+fn outline_of(
+    alloc: Global,
+    words: &[(u64, u64)],
+    regs: UnwindRegsX86_64,
+    limit: u32,
+) -> Result<Outline, Fail> {
+    let found = backtrace_of(alloc, words, regs, limit)?;
+    Ok((found.end, found.frames.len(), frame_row(&found, 1)))
 }
 
 /// A handler, called from which is a leaf that no FDE covers; the trampoline; the function that it interrupted; and the
@@ -124,139 +106,141 @@ const WORDS: [(u64, u64); 6] = [
     (0x7200 + 24, 0x401090),
 ];
 
+/// The frames from the leaf on.
+const FRAMES: [FrameRow; 5] = [
+    (0x4010d0, false, FoundBy::First),
+    (0x401010, true, FoundBy::Guess),
+    (0x401100, true, FoundBy::Cfi),
+    (0x401020, false, FoundBy::Signal),
+    (0x401090, true, FoundBy::Cfi),
+];
+
 #[test]
 fn crosses_a_signal_frame(rt: HostRuntime) -> Result<(), Fail> {
-    let alloc = rt.alloc();
     let regs = UnwindRegsX86_64::new(0x4010d0, 0x7000, 0x7ff0);
-    let found = backtrace_of(alloc, &WORDS, regs, 10)?;
-    for (at, address, is_return_address, kind) in [
-        (0, 0x4010d0, false, FoundBy::First),
-        (1, 0x401010, true, FoundBy::Guess),
-        (2, 0x401100, true, FoundBy::Cfi),
-        (3, 0x401020, false, FoundBy::Signal),
-        (4, 0x401090, true, FoundBy::Cfi),
-    ] {
-        let (frame, found_by) = told(&found, at).ok_or("no frame")?;
-        assert_eq!(rt; frame.address(), address);
-        assert_eq!(rt; frame.is_return_address(), is_return_address);
-        assert_eq!(rt; found_by, kind);
-    }
-    assert_eq!(rt; found.frames.len(), 5);
-    assert_eq!(rt; found.end, BacktraceEnd::Root);
+    let found = backtrace_of(rt.alloc(), &WORDS, regs, 10)?;
+    assert!(rt; is_trace(&found, &FRAMES, BacktraceEnd::Root));
     Ok(())
 }
+
+/// What is known of their registers, where rbx and r12 of the leaf are 0xb0 and 0xc0.
+const KNOWN: [ColumnRow; 12] = [
+    (0, 3, Some(0xb0)),
+    // after the library's step rsp, rbp and rip only
+    (1, 3, None),
+    (1, 12, None),
+    (1, 6, Some(0x7ff0)),
+    (1, 7, Some(0x7008)),
+    (1, 16, Some(0x401010)),
+    // by a row what it saves
+    (2, 3, Some(0xbbbb)),
+    (2, 7, Some(0x7028)),
+    // all that the kernel saved
+    (3, 3, Some(0)),
+    (3, 7, Some(0x7200)),
+    (3, 16, Some(0x401020)),
+    (4, 7, Some(0x7220)),
+];
 
 #[test]
 fn knows_the_registers_of_frames(rt: HostRuntime) -> Result<(), Fail> {
-    let alloc = rt.alloc();
     let mut regs = UnwindRegsX86_64::new(0x4010d0, 0x7000, 0x7ff0);
     regs.set(Reg::RBX, 0xb0);
     regs.set(Reg::R12, 0xc0);
-    let found = backtrace_of(alloc, &WORDS, regs, 10)?;
-    // the frame, a column, and what is known of it
-    for (at, column, value) in [
-        (0, 3, Some(0xb0)),
-        // after the library's step rsp, rbp and rip only
-        (1, 3, None),
-        (1, 12, None),
-        (1, 6, Some(0x7ff0)),
-        (1, 7, Some(0x7008)),
-        (1, 16, Some(0x401010)),
-        // by a row what it saves
-        (2, 3, Some(0xbbbb)),
-        (2, 7, Some(0x7028)),
-        // all that the kernel saved
-        (3, 3, Some(0)),
-        (3, 7, Some(0x7200)),
-        (3, 16, Some(0x401020)),
-        (4, 7, Some(0x7220)),
-    ] {
-        let frame = found.frames.as_slice().get(at).ok_or("no frame")?;
-        assert_eq!(rt;
-            frame.columns.get(Register(column)),
-            value,
-            "frame {at}, column {column}"
-        );
-    }
+    let found = backtrace_of(rt.alloc(), &WORDS, regs, 10)?;
+    assert!(rt; has_columns(&found, &KNOWN));
     Ok(())
 }
 
+/// Words of two stacks of the function of the first FDE.
+const WORDS_OF_ENDS: [(u64, u64); 2] = [(0x7100 + 24, 0x1234), (0x7180 + 24, 0x401090)];
+
+/// The stack pointer, how the backtrace ends, and how many frames it has: a return address outside of code, one that is 0, one
+/// that can't be read, and the outermost function.
+const ENDS: [(u64, BacktraceEnd, usize); 4] = [
+    (0x7100, BacktraceEnd::NotCode(0x1234), 1),
+    (
+        0x7140,
+        BacktraceEnd::Refused(framehop::Error::ReturnAddressIsNull),
+        1,
+    ),
+    (0x9000, BacktraceEnd::ReturnAddressUnknown, 1),
+    (0x7180, BacktraceEnd::Root, 2),
+];
+
 #[test]
 fn ends_by_name(rt: HostRuntime) -> Result<(), Fail> {
-    let alloc = rt.alloc();
-    // in the function of the first FDE: a return address outside of code, one that is 0, and one that can't be read
-    for (rsp, end, frames) in [
-        (0x7100, BacktraceEnd::NotCode(0x1234), 1),
-        (
-            0x7140,
-            BacktraceEnd::Refused(framehop::Error::ReturnAddressIsNull),
-            1,
-        ),
-        (0x9000, BacktraceEnd::ReturnAddressUnknown, 1),
-        (0x7180, BacktraceEnd::Root, 2),
-    ] {
+    for (rsp, end, frames) in ENDS {
         let regs = UnwindRegsX86_64::new(0x401004, rsp, 0);
-        let words = [(0x7100 + 24, 0x1234), (0x7180 + 24, 0x401090)];
-        let found = backtrace_of(alloc, &words, regs, 10)?;
-        assert_eq!(rt; found.end, end);
-        assert_eq!(rt; found.frames.len(), frames);
+        let found = outline_of(rt.alloc(), &WORDS_OF_ENDS, regs, 10)?;
+        assert!(rt; (found.0, found.1) == (end, frames));
     }
     // the limit
     let regs = UnwindRegsX86_64::new(0x4010d0, 0x7000, 0x7ff0);
     for limit in 0u32..5 {
-        let found = backtrace_of(alloc, &WORDS, regs, limit)?;
-        assert_eq!(rt; found.end, BacktraceEnd::Limit);
-        assert_eq!(rt; found.frames.len(), limit as usize);
+        let found = outline_of(rt.alloc(), &WORDS, regs, limit)?;
+        assert!(rt; (found.0, found.1) == (BacktraceEnd::Limit, limit as usize));
     }
     Ok(())
 }
+
+/// Words of stacks of a function in no FDE: the word at rsp is after no call; a frame pointer leads to one after `call *%rax`,
+/// and another to one that is after none.
+const WORDS_OF_GUESSES: [(u64, u64); 6] = [
+    (0x7000, 0x401014),
+    (0x7100, 0x7140),
+    (0x7108, 0x401030),
+    (0x7110 + 24, 0x401090),
+    (0x7180, 0x7190),
+    (0x7188, 0x401014),
+];
+
+/// The frame pointer, and the outline of the backtrace.
+const GUESSES: [(u64, Outline); 4] = [
+    (
+        0x7100,
+        (
+            BacktraceEnd::Root,
+            3,
+            Some((0x401030, true, FoundBy::FramePointer)),
+        ),
+    ),
+    (0x7180, (BacktraceEnd::NoCaller, 1, None)),
+    (0, (BacktraceEnd::FramePointerZero, 1, None)),
+    (0x9000, (BacktraceEnd::NoCaller, 1, None)),
+];
 
 #[test]
 fn falls_back_from_a_guess(rt: HostRuntime) -> Result<(), Fail> {
-    let alloc = rt.alloc();
-    // in no FDE, with rbp: the word at rsp is after no call; the frame pointer leads to one after `call *%rax`
-    let words = [
-        (0x7000, 0x401014),
-        (0x7100, 0x7140),
-        (0x7108, 0x401030),
-        (0x7110 + 24, 0x401090),
-        (0x7180, 0x7190),
-        (0x7188, 0x401014),
-    ];
-    for (rbp, end, frames, kind) in [
-        (0x7100, BacktraceEnd::Root, 3, Some(FoundBy::FramePointer)),
-        (0x7180, BacktraceEnd::NoCaller, 1, None),
-        (0, BacktraceEnd::FramePointerZero, 1, None),
-        (0x9000, BacktraceEnd::NoCaller, 1, None),
-    ] {
+    for (rbp, outline) in GUESSES {
         let regs = UnwindRegsX86_64::new(0x4010d0, 0x7000, rbp);
-        let found = backtrace_of(alloc, &words, regs, 10)?;
-        assert_eq!(rt; found.end, end);
-        assert_eq!(rt; found.frames.len(), frames);
-        assert_eq!(rt; told(&found, 1).map(|frame| frame.1), kind);
+        let found = outline_of(rt.alloc(), &WORDS_OF_GUESSES, regs, 10)?;
+        assert!(rt; found == outline);
     }
     Ok(())
 }
 
+/// Words of two stacks of a call to no code: rsp is at the address after `call`, or at one after no call; the frame pointer
+/// leads to one after `call *%rax`.
+const WORDS_OF_LOST_CALLS: [(u64, u64); 4] = [
+    (0x7000, 0x401010),
+    (0x7008, 0x401014),
+    (0x7100, 0x7140),
+    (0x7108, 0x401030),
+];
+
+/// The stack pointer, and the caller.
+const LOST_CALLS: [(u64, FrameRow); 2] = [
+    (0x7000, (0x401010, true, FoundBy::Guess)),
+    (0x7008, (0x401030, true, FoundBy::FramePointer)),
+];
+
 #[test]
 fn returns_from_calls_to_no_code(rt: HostRuntime) -> Result<(), Fail> {
-    let alloc = rt.alloc();
-    // rsp is at the address after `call`, or at one after no call; the frame pointer leads to one after `call *%rax`
-    let words = [
-        (0x7000, 0x401010),
-        (0x7008, 0x401014),
-        (0x7100, 0x7140),
-        (0x7108, 0x401030),
-    ];
-    for (rsp, address, kind) in [
-        (0x7000, 0x401010, FoundBy::Guess),
-        (0x7008, 0x401030, FoundBy::FramePointer),
-    ] {
+    for (rsp, caller) in LOST_CALLS {
         let regs = UnwindRegsX86_64::new(0, rsp, 0x7100);
-        let found = backtrace_of(alloc, &words, regs, 2)?;
-        assert_eq!(rt; found.frames.len(), 2);
-        let caller = FrameAddress::from_return_address(address);
-        assert_eq!(rt; told(&found, 1), caller.map(|caller| (caller, kind)));
+        let found = outline_of(rt.alloc(), &WORDS_OF_LOST_CALLS, regs, 2)?;
+        assert!(rt; found == (BacktraceEnd::Limit, 2, Some(caller)));
     }
     Ok(())
 }
