@@ -121,11 +121,12 @@ def code_in_memory(count):
 
 
 def overlapping_files(count):
-    """Mapped files that are not given, each with a path and a segment of its own, which has its first bytes; of the segments the last
-    two overlap."""
+    """Mapped files that are not given, each with a path and a segment of its own, which has its first bytes, after three other segments
+    for each; of the segments the last two overlap."""
     starts = [0x10000000 + PAGE * at for at in range(count)]
     files = [(start, start + PAGE, b"/lib/%08d.so" % at) for at, start in enumerate(starts)]
-    return {"dump": core_of_code(files, [(start, image(0)) for start in starts] + [(starts[-1] + 32, image(0))])}
+    others = [(0x1000000 + 16 * at, bytes(16)) for at in range(3 * count)]
+    return {"dump": core_of_code(files, others + [(start, image(0)) for start in starts] + [(starts[-1] + 32, image(0))])}
 
 
 def mappings_of_one_file(count):
