@@ -1,6 +1,6 @@
 //! Worked examples of core files, with the values that are to come out.
 
 mod aarch64;
-mod pieces;
+mod dump;
 mod refusals;
 mod x86_64;

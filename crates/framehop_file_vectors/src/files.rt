@@ -1,5 +1,6 @@
 //! Which file is read for a name: files that were deleted, copies by their build ids, and debug files.
 use crate::elf::{BUILD_ID, PROGRAM};
+use crate::pieces::holds;
 use framehop_symbols::files::{FileSource, Files};
 use framehop_symbols::object_file::FileProblem;
 use std::alloc::{AllocError, Global};
@@ -47,53 +48,54 @@ impl FileSource for OneFile<'_> {
 }
 
 /// Returns why nothing is read of the file of a name, of which a build id is wanted, or `None` where it is read.
-fn problem_of(rt: &HostRuntime, name: &[u8], build_id: &[u8]) -> Result<Option<FileProblem>, Fail> {
-    let bytes = hex::decode(rt.alloc(), PROGRAM)?;
+fn problem_of(alloc: Global, name: &[u8], build_id: &[u8]) -> Result<Option<FileProblem>, Fail> {
+    let bytes = hex::decode(alloc, PROGRAM)?;
     let source = OneFile {
-        alloc: rt.alloc(),
+        alloc,
         bytes: bytes.as_slice(),
         link: b"another.debug",
     };
-    let mut files = Files::new(rt.alloc())?;
-    files.add(rt.alloc(), &source, name, build_id)?;
+    let mut files = Files::new(alloc)?;
+    files.add(alloc, &source, name, build_id)?;
     let file = files.get(0).ok_or("no file is listed")?;
     Ok(file.problem)
 }
 
+/// Names, whether the program's build id is wanted, and why nothing is read.
+const PROBLEMS: [(&[u8], bool, Option<FileProblem>); 5] = [
+    (b"/bin/small", false, None),
+    (b"/bin/small", true, None),
+    (b"/bin/small (deleted)", true, None),
+    (b"/bin/small (deleted)", false, Some(FileProblem::NotRead)),
+    (b"/bin/other", true, Some(FileProblem::NotRead)),
+];
+
 #[test]
 fn a_deleted_file_is_read_by_its_build_id(rt: HostRuntime) -> Result<(), Fail> {
-    let build_id = hex::decode(rt.alloc(), BUILD_ID)?;
-    assert_eq!(rt; problem_of(&rt, b"/bin/small", &[])?, None);
-    assert_eq!(rt; problem_of(&rt, b"/bin/small", &build_id)?, None);
-    assert_eq!(rt; problem_of(&rt, b"/bin/small (deleted)", &build_id)?, None);
-    assert_eq!(rt;
-        problem_of(&rt, b"/bin/small (deleted)", &[])?,
-        Some(FileProblem::NotRead)
-    );
-    assert_eq!(rt;
-        problem_of(&rt, b"/bin/small (deleted)", &[7; 20])?,
-        Some(FileProblem::OtherBuildId)
-    );
-    assert_eq!(rt;
-        problem_of(&rt, b"/bin/other", &build_id)?,
-        Some(FileProblem::NotRead)
-    );
-    Ok(())
+    let mut build_id = [0; 20];
+    hex::decode_to_slice(BUILD_ID, &mut build_id)?;
+    for (name, is_wanted, problem) in PROBLEMS {
+        let wanted: &[u8] = if is_wanted { &build_id } else { &[] };
+        holds(problem_of(rt.alloc(), name, wanted)? == problem)?;
+    }
+    let other = problem_of(rt.alloc(), b"/bin/small (deleted)", &[7; 20])?;
+    holds(other == Some(FileProblem::OtherBuildId))
+}
+
+/// Whether memory runs out while a debug file is read, and no file is listed.
+fn runs_out(alloc: Global, bytes: &[u8]) -> Result<bool, Fail> {
+    let source = OneFile {
+        alloc,
+        bytes,
+        link: b"",
+    };
+    let mut files = Files::new(alloc)?;
+    let is_refused = files.add(alloc, &source, b"/bin/small", &[]).is_err();
+    Ok(is_refused && files.list().len() == 0)
 }
 
 #[test]
 fn memory_that_runs_out_at_a_debug_file_is_told(rt: HostRuntime) -> Result<(), Fail> {
     let bytes = hex::decode(rt.alloc(), PROGRAM)?;
-    let source = OneFile {
-        alloc: rt.alloc(),
-        bytes: bytes.as_slice(),
-        link: b"",
-    };
-    let mut files = Files::new(rt.alloc())?;
-    assert_eq!(rt;
-        files.add(rt.alloc(), &source, b"/bin/small", &[]).is_err(),
-        true
-    );
-    assert_eq!(rt; files.list().len(), 0);
-    Ok(())
+    holds(runs_out(rt.alloc(), bytes.as_slice())?)
 }

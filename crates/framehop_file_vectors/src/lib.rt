@@ -15,4 +15,6 @@ mod minidump;
 #[cfg(test)]
 mod pe_file;
 #[cfg(test)]
+mod pieces;
+#[cfg(test)]
 mod recording;

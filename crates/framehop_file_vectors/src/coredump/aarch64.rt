@@ -1,14 +1,11 @@
 //! A core file of aarch64 that was made by hand: `scripts/coredump/made_up_aarch64.py`. The expected values are those
 //! that it is made of, as `readelf -hln` and the structs of Linux have them.
-use crate::coredump::pieces::file_of;
-use crate::coredump::x86_64;
+use crate::coredump::dump::{MappedRow, are_mapped, is_process, memory, read_dump};
+use crate::pieces::{file_of, has_words, holds};
 use framehop_core::aarch64::{PtrAuthMask, UnwindRegsAarch64};
-use framehop_coredump::core_file::{Machine, read_core_file};
-use framehop_coredump::mapped_file::read_mapped_files;
-use framehop_coredump::note::read_notes;
-use framehop_coredump::process::read_process;
+use framehop_coredump::core_file::Machine;
 use framehop_coredump::registers::{aarch64_registers, code_ptr_auth_mask};
-use framehop_coredump::thread::read_threads;
+use framehop_coredump::thread::Thread;
 use std::alloc::Global;
 use std::test::Fail;
 
@@ -87,76 +84,90 @@ pub(crate) fn core(alloc: Global) -> Result<Vec<u8>, Fail> {
     file_of(alloc, SIZE, &PIECES)
 }
 
-#[test]
-fn reads_threads(rt: HostRuntime) -> Result<(), Fail> {
-    let alloc = rt.alloc();
-    let file = core(alloc)?;
-    let core = read_core_file(alloc, file.as_slice())?;
-    assert_eq!(rt; core.machine, Machine::Aarch64);
-    let notes = read_notes(alloc, file.as_slice(), core.segments.as_slice())?;
-    let threads = read_threads(alloc, core.machine, notes.as_slice())?;
-    assert_eq!(rt; threads.len(), 2);
-    let first = threads.get(0).copied().ok_or("no thread")?;
-    assert_eq!(rt; (first.tid, first.signal), (501, 11));
-    let mask = code_ptr_auth_mask(first.pac_mask);
-    assert_eq!(rt; mask, PtrAuthMask(0xff80ffffffffffff));
-    let (pc, registers) = aarch64_registers(mask, first.registers).ok_or("no registers")?;
+/// Whether this is the first thread.
+fn is_first(thread: Thread<'_>) -> bool {
+    let mask = code_ptr_auth_mask(thread.pac_mask);
     let expected = UnwindRegsAarch64::new_with_ptr_auth_mask(
         mask,
         0xaaaa00000748,
         0xfffff0000000,
         0xfffff0000010,
     );
-    assert_eq!(rt; pc, 0xaaaa00000710);
-    assert!(rt; registers == expected);
-    // the masks come before the second thread: it has none of its own
-    let second = threads.get(1).copied().ok_or("no second thread")?;
-    assert_eq!(rt;
-        (second.tid, second.signal, second.pac_mask),
-        (502, 0, None)
-    );
-    let mask = code_ptr_auth_mask(second.pac_mask);
-    let (pc, registers) = aarch64_registers(mask, second.registers).ok_or("no registers")?;
-    let expected = UnwindRegsAarch64::new(0x11aaaa00000900, 0xfffff0000800, 0xfffff0000810);
-    assert_eq!(rt; pc, 0xaaaa00000800);
-    assert!(rt; registers == expected);
-    assert!(rt; aarch64_registers(mask, &second.registers[1..]).is_none());
-    Ok(())
+    (thread.tid, thread.signal) == (501, 11)
+        && mask == PtrAuthMask(0xff80ffffffffffff)
+        && aarch64_registers(mask, thread.registers) == Some((0xaaaa00000710, expected))
 }
 
-/// The mapped files: first address, address after the last, offset in the file.
-const MAPPED: [(u64, u64, u64); 3] = [
-    (0xaaaa00000000, 0xaaaa00001000, 0),
-    (0xaaaa00010000, 0xaaaa00012000, 0x10000),
-    (0xffffa0000000, 0xffffa0001000, 0x3000),
+/// Whether this is the second thread. The masks come before it: it has none of its own.
+fn is_second(thread: Thread<'_>) -> bool {
+    let mask = code_ptr_auth_mask(thread.pac_mask);
+    let expected = UnwindRegsAarch64::new(0x11aaaa00000900, 0xfffff0000800, 0xfffff0000810);
+    (thread.tid, thread.signal, thread.pac_mask) == (502, 0, None)
+        && aarch64_registers(mask, thread.registers) == Some((0xaaaa00000800, expected))
+        && needs_each_byte(mask, thread.registers)
+}
+
+/// Whether there are no registers in one byte fewer.
+fn needs_each_byte(mask: PtrAuthMask, registers: &[u8]) -> bool {
+    match registers {
+        [_, rest @ ..] => aarch64_registers(mask, rest).is_none(),
+        [] => false,
+    }
+}
+
+/// Whether a core file has both threads.
+fn has_both_threads(alloc: Global, file: &[u8]) -> Result<bool, Fail> {
+    let dump = read_dump(alloc, file)?;
+    let [first, second] = dump.threads.as_slice() else {
+        return Ok(false);
+    };
+    Ok(dump.core.machine == Machine::Aarch64 && is_first(*first) && is_second(*second))
+}
+
+#[test]
+fn reads_threads(rt: HostRuntime) -> Result<(), Fail> {
+    let file = core(rt.alloc())?;
+    holds(has_both_threads(rt.alloc(), file.as_slice())?)
+}
+
+/// The mapped files.
+const MAPPED: [MappedRow; 3] = [
+    (0xaaaa00000000, 0xaaaa00001000, 0, b"/usr/bin/made-up"),
+    (0xaaaa00010000, 0xaaaa00012000, 0x10000, b"/usr/bin/made-up"),
+    (
+        0xffffa0000000,
+        0xffffa0001000,
+        0x3000,
+        b"/usr/lib/libmade.so",
+    ),
 ];
+
+/// Words by their addresses.
+const WORDS: [(u64, Option<u64>); 6] = [
+    (0xfffff0000000, Some(0x50000000)),
+    (0xfffff00001f8, Some(0x5000003f)),
+    (0xfffff00001f9, None),
+    (0xfffff0000200, None),
+    (0xffffeffffff8, None),
+    (0xaaaa00000000, None),
+];
+
+/// Whether a core file has the process and these files.
+fn has_process_and_files(alloc: Global, file: &[u8]) -> Result<bool, Fail> {
+    let dump = read_dump(alloc, file)?;
+    let notes = dump.notes.as_slice();
+    Ok(is_process(notes, 501, b"made-up") && are_mapped(alloc, notes, &MAPPED)?)
+}
+
+/// Whether it has these words.
+fn has_memory(alloc: Global, file: &[u8]) -> Result<bool, Fail> {
+    let memory = memory(alloc, file)?;
+    Ok(has_words(&memory, &WORDS))
+}
 
 #[test]
 fn reads_the_process_its_files_and_memory(rt: HostRuntime) -> Result<(), Fail> {
-    let alloc = rt.alloc();
-    let file = core(alloc)?;
-    let core = read_core_file(alloc, file.as_slice())?;
-    let segments = core.segments.as_slice();
-    let notes = read_notes(alloc, file.as_slice(), segments)?;
-    let process = read_process(notes.as_slice())?.ok_or("no process")?;
-    assert_eq!(rt; (process.pid, process.name), (501, b"made-up".as_slice()));
-    let mapped = read_mapped_files(alloc, notes.as_slice())?;
-    assert_eq!(rt; mapped.len(), 3);
-    for (part, (start, end, offset)) in mapped.iter().zip(MAPPED) {
-        assert_eq!(rt; (part.start, part.end, part.offset), (start, end, offset));
-    }
-    let last = mapped.get(2).ok_or("no third file")?;
-    assert_eq!(rt; last.path, b"/usr/lib/libmade.so".as_slice());
-    let memory = x86_64::memory(alloc, file.as_slice())?;
-    for (address, word) in [
-        (0xfffff0000000, Some(0x50000000)),
-        (0xfffff00001f8, Some(0x5000003f)),
-        (0xfffff00001f9, None),
-        (0xfffff0000200, None),
-        (0xffffeffffff8, None),
-        (0xaaaa00000000, None),
-    ] {
-        assert_eq!(rt; memory.word_at(address), word);
-    }
-    Ok(())
+    let file = core(rt.alloc())?;
+    holds(has_process_and_files(rt.alloc(), file.as_slice())?)?;
+    holds(has_memory(rt.alloc(), file.as_slice())?)
 }

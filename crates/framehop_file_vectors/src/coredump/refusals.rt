@@ -1,6 +1,7 @@
 //! Each refusal once, of the two core files with a few other bytes.
-use crate::coredump::pieces::change;
+use crate::coredump::dump::memory;
 use crate::coredump::{aarch64, x86_64};
+use crate::pieces::{change, changed, has_words, holds};
 use framehop_bytes::bytes::front;
 use framehop_coredump::core_file::{Machine, read_core_file};
 use framehop_coredump::error::CoreFileError;
@@ -62,27 +63,44 @@ const CHANGES: [(usize, &[u8], CoreFileError); 12] = [
     ),
 ];
 
+/// Reads all of a core file with these bytes at an offset.
+fn read_changed(
+    alloc: Global,
+    file: &[u8],
+    offset: usize,
+    bytes: &[u8],
+) -> Result<Result<Machine, CoreFileError>, Fail> {
+    let file = changed(alloc, file, offset, bytes)?;
+    Ok(read_all(alloc, file.as_slice()))
+}
+
+/// Whether a core file is refused so with each of these changes.
+fn refuses_each(
+    alloc: Global,
+    file: &[u8],
+    changes: &[(usize, &[u8], CoreFileError)],
+) -> Result<bool, Fail> {
+    for (offset, bytes, refusal) in changes {
+        if read_changed(alloc, file, *offset, *bytes)? != Err(*refusal) {
+            return Ok(false);
+        }
+    }
+    Ok(true)
+}
+
+/// Whether the file of x86_64 is read, and up to the end of its notes, and is refused where it is cut off in them.
+fn is_read_to_its_notes(alloc: Global, file: &[u8]) -> bool {
+    let refusal = CoreFileError::Elf(ElfError::Eof { offset: 0x270 });
+    read_all(alloc, file) == Ok(Machine::X86_64)
+        && read_all(alloc, front(file, 0x227c)) == Ok(Machine::X86_64)
+        && read_all(alloc, front(file, 0x227b)) == Err(refusal)
+}
+
 #[test]
 fn refuses_what_is_broken(rt: HostRuntime) -> Result<(), Fail> {
-    let alloc = rt.alloc();
-    let file = x86_64::core(alloc)?;
-    assert_eq!(rt; read_all(alloc, file.as_slice()), Ok(Machine::X86_64));
-    for (offset, bytes, refusal) in CHANGES {
-        let mut file = x86_64::core(alloc)?;
-        change(&mut file, offset, bytes)?;
-        assert_eq!(rt; read_all(alloc, file.as_slice()), Err(refusal));
-    }
-    // cut off in its notes
-    let refusal = CoreFileError::Elf(ElfError::Eof { offset: 0x270 });
-    assert_eq!(rt;
-        read_all(alloc, front(file.as_slice(), 0x227b)),
-        Err(refusal)
-    );
-    assert_eq!(rt;
-        read_all(alloc, front(file.as_slice(), 0x227c)),
-        Ok(Machine::X86_64)
-    );
-    Ok(())
+    let file = x86_64::core(rt.alloc())?;
+    holds(is_read_to_its_notes(rt.alloc(), file.as_slice()))?;
+    holds(refuses_each(rt.alloc(), file.as_slice(), &CHANGES)?)
 }
 
 /// Reads the notes by these segments, and returns how many there are.
@@ -95,64 +113,70 @@ fn count_notes(
     Ok(notes.len())
 }
 
+/// The segment of notes of the file of aarch64.
+const NOTES: ProgramHeader = ProgramHeader {
+    p_type: 4,
+    p_flags: 0,
+    p_offset: 0xe8,
+    p_vaddr: 0,
+    p_paddr: 0,
+    p_filesz: 0x49c,
+    p_memsz: 0,
+    p_align: 4,
+};
+
+/// Whether the same segment three times, 0xdd4 bytes, is refused in a file with fewer.
+fn refuses_shared(alloc: Global, file: &[u8]) -> bool {
+    let segments = [NOTES, NOTES, NOTES];
+    let refusal = CoreFileError::SharedNotes { offset: 0xe8 };
+    count_notes(alloc, front(file, 0xdd4), &segments) == Ok(15)
+        && count_notes(alloc, front(file, 0xdd3), &segments) == Err(refusal)
+}
+
 #[test]
 fn refuses_notes_that_are_shared(rt: HostRuntime) -> Result<(), Fail> {
-    let alloc = rt.alloc();
-    let file = aarch64::core(alloc)?;
-    let notes = ProgramHeader {
-        p_type: 4,
-        p_flags: 0,
-        p_offset: 0xe8,
-        p_vaddr: 0,
-        p_paddr: 0,
-        p_filesz: 0x49c,
-        p_memsz: 0,
-        p_align: 4,
-    };
-    // the same segment three times: 0xdd4 bytes
-    let segments = [notes, notes, notes];
-    let enough = front(file.as_slice(), 0xdd4);
-    assert_eq!(rt; count_notes(alloc, enough, &segments), Ok(15));
-    let refusal = CoreFileError::SharedNotes { offset: 0xe8 };
-    let fewer = front(file.as_slice(), 0xdd3);
-    assert_eq!(rt; count_notes(alloc, fewer, &segments), Err(refusal));
-    Ok(())
+    let file = aarch64::core(rt.alloc())?;
+    holds(refuses_shared(rt.alloc(), file.as_slice()))
 }
+
+/// Changes of the file of aarch64: its machine, since a thread of aarch64 has other registers than one of x86_64, and the size
+/// of the masks.
+const CHANGES_OF_AARCH64: [(usize, &[u8], CoreFileError); 2] = [
+    (18, &[62], CoreFileError::BadNoteSize { offset: 0xe8 }),
+    (0x3c8, &[15], CoreFileError::BadNoteSize { offset: 0x3c4 }),
+];
 
 #[test]
 fn refuses_masks_of_another_size(rt: HostRuntime) -> Result<(), Fail> {
-    let alloc = rt.alloc();
-    let mut file = aarch64::core(alloc)?;
-    assert_eq!(rt; read_all(alloc, file.as_slice()), Ok(Machine::Aarch64));
-    // a thread of aarch64 has other registers than one of x86_64
-    change(&mut file, 18, &[62])?;
-    let refusal = CoreFileError::BadNoteSize { offset: 0xe8 };
-    assert_eq!(rt; read_all(alloc, file.as_slice()), Err(refusal));
-    change(&mut file, 18, &[183])?;
-    change(&mut file, 0x3c8, &[15])?;
-    let refusal = CoreFileError::BadNoteSize { offset: 0x3c4 };
-    assert_eq!(rt; read_all(alloc, file.as_slice()), Err(refusal));
-    Ok(())
+    let file = aarch64::core(rt.alloc())?;
+    holds(read_all(rt.alloc(), file.as_slice()) == Ok(Machine::Aarch64))?;
+    holds(refuses_each(rt.alloc(), file.as_slice(), &CHANGES_OF_AARCH64)?)
 }
 
-/// The word at an address of the memory that a file has.
-fn word_at(alloc: Global, file: &[u8], address: u64) -> Result<Option<u64>, Fail> {
-    Ok(x86_64::memory(alloc, file)?.word_at(address))
+/// Moves the second segment of memory to the address of the fourth: nothing of it was dumped.
+fn move_segment(file: &mut [u8]) -> Option<()> {
+    change(file, 0xc0, &[0, 0x30, 0x40])
+}
+
+/// Gives it 0x1000 bytes, those at the offset 0x3000.
+fn fill_segment(file: &mut [u8]) -> Option<()> {
+    change(file, 0xb8, &[0, 0x30])?;
+    change(file, 0xd0, &[0, 0x10])
+}
+
+/// Whether memory of a core file has a word at an address.
+fn has_word(alloc: Global, file: &[u8], address: u64, word: u64) -> Result<bool, Fail> {
+    let memory = memory(alloc, file)?;
+    Ok(has_words(&memory, &[(address, Some(word))]))
 }
 
 #[test]
 fn takes_the_first_of_two_segments(rt: HostRuntime) -> Result<(), Fail> {
-    let alloc = rt.alloc();
-    let mut file = x86_64::core(alloc)?;
-    // the second segment of memory is moved to the address of the fourth: nothing of it was dumped
-    change(&mut file, 0xc0, &[0, 0x30, 0x40])?;
-    assert_eq!(rt; word_at(alloc, file.as_slice(), 0x403488)?, Some(0x4010be));
-    // then it has 0x1000 bytes, those at the offset 0x3000
-    change(&mut file, 0xb8, &[0, 0x30])?;
-    change(&mut file, 0xd0, &[0, 0x10])?;
-    let word = word_at(alloc, file.as_slice(), 0x403000)?;
-    assert_eq!(rt; word, Some(0x10102464c457f));
-    Ok(())
+    let mut file = x86_64::core(rt.alloc())?;
+    move_segment(file.as_mut_slice()).ok_or("no such byte")?;
+    holds(has_word(rt.alloc(), file.as_slice(), 0x403488, 0x4010be)?)?;
+    fill_segment(file.as_mut_slice()).ok_or("no such byte")?;
+    holds(has_word(rt.alloc(), file.as_slice(), 0x403000, 0x10102464c457f)?)
 }
 
 /// Owners of notes, and how a core file is refused that has one of theirs and no thread.
@@ -181,8 +205,7 @@ fn note_of(owner: &[u8], offset: u64) -> PlacedNote<'_> {
 fn names_other_systems(rt: HostRuntime) -> Result<(), Fail> {
     for (owner, refusal) in OWNERS {
         let notes = [note_of(b"CORE\0", 20), note_of(owner, 120)];
-        assert_eq!(rt; without_threads(&notes), refusal);
+        holds(without_threads(&notes) == refusal)?;
     }
-    assert_eq!(rt; without_threads(&[]), CoreFileError::NoThreads);
-    Ok(())
+    holds(without_threads(&[]) == CoreFileError::NoThreads)
 }

@@ -1,19 +1,15 @@
 //! A core file of Linux 6.18 on x86_64: `scripts/coredump/crash.c`, as it is said there. The last segment is cut off,
 //! and the bytes of vector registers and of the vdso are 0. The expected values are those that `readelf -ln`
 //! and gdb's `info registers`, `info auxv`, `info proc mappings`, `backtrace` and `x/gx` print.
-use crate::coredump::pieces::file_of;
+use crate::coredump::dump::{MappedRow, are_mapped, is_process, memory, read_dump};
+use crate::pieces::{file_of, has_words, holds};
 use framehop_bytes::bytes::front;
 use framehop_core::x86_64::Reg;
 use framehop_coredump::auxiliary_vector::vdso_of;
-use framehop_coredump::core_file::{Machine, read_core_file};
-use framehop_coredump::mapped_file::read_mapped_files;
-use framehop_coredump::memory::memory_of;
-use framehop_coredump::note::read_notes;
-use framehop_coredump::process::read_process;
+use framehop_coredump::core_file::Machine;
 use framehop_coredump::registers::x86_64_registers;
 use framehop_coredump::signal_info::SignalInfo;
-use framehop_coredump::thread::read_threads;
-use framehop_elf::segment::loaded_segments;
+use framehop_coredump::thread::Thread;
 use framehop_memory::memory::ProcessMemory;
 use std::alloc::Global;
 use std::test::Fail;
@@ -177,77 +173,90 @@ const REGISTERS: [(Reg, u64); 16] = [
     (Reg::R15, 0xf0f1),
 ];
 
+/// What gdb's `$_siginfo` prints of it: SIGSEGV, SEGV_MAPERR and the address.
+const INFO: SignalInfo = SignalInfo {
+    signal: 11,
+    code: 1,
+    fields: 0x10,
+};
+
+/// Whether this is the first thread.
+fn is_first(thread: Thread<'_>) -> bool {
+    let Some(registers) = x86_64_registers(thread.registers) else {
+        return false;
+    };
+    for (register, value) in REGISTERS {
+        if registers.get(register) != value {
+            return false;
+        }
+    }
+    (thread.tid, thread.signal, thread.offset) == (32706, 11, 0x270)
+        && thread.info == Some(INFO)
+        && registers.ip() == 0x40104e
+}
+
+/// Whether this is the second thread.
+fn is_second(thread: Thread<'_>) -> bool {
+    let Some(registers) = x86_64_registers(thread.registers) else {
+        return false;
+    };
+    (thread.tid, thread.signal, thread.offset) == (32707, 11, 0x13e4)
+        && (thread.info, thread.pac_mask) == (None, None)
+        && (registers.ip(), registers.sp(), registers.bp()) == (0x401088, 0x403488, 0)
+        && registers.get(Reg::RAX) == 0xfffffffffffffdfe
+        && needs_each_byte(thread.registers)
+}
+
+/// Whether there are no registers in one byte fewer.
+fn needs_each_byte(registers: &[u8]) -> bool {
+    match registers {
+        [_, rest @ ..] => x86_64_registers(rest).is_none(),
+        [] => false,
+    }
+}
+
+/// Whether a core file has both threads.
+fn has_both_threads(alloc: Global, file: &[u8]) -> Result<bool, Fail> {
+    let dump = read_dump(alloc, file)?;
+    let [first, second] = dump.threads.as_slice() else {
+        return Ok(false);
+    };
+    Ok(
+        dump.core.machine == Machine::X86_64
+            && (dump.core.segments.len(), dump.notes.len()) == (10, 11)
+            && is_first(*first)
+            && is_second(*second),
+    )
+}
+
 #[test]
 fn reads_threads(rt: HostRuntime) -> Result<(), Fail> {
-    let alloc = rt.alloc();
-    let file = core(alloc)?;
-    let core = read_core_file(alloc, file.as_slice())?;
-    assert_eq!(rt; core.machine, Machine::X86_64);
-    assert_eq!(rt; core.segments.len(), 10);
-    let notes = read_notes(alloc, file.as_slice(), core.segments.as_slice())?;
-    assert_eq!(rt; notes.len(), 11);
-    let threads = read_threads(alloc, core.machine, notes.as_slice())?;
-    assert_eq!(rt; threads.len(), 2);
-    let first = threads.get(0).copied().ok_or("no thread")?;
-    assert_eq!(rt; (first.tid, first.signal, first.offset), (32706, 11, 0x270));
-    // gdb's `$_siginfo`: SIGSEGV, SEGV_MAPERR and the address
-    let info = SignalInfo {
-        signal: 11,
-        code: 1,
-        fields: 0x10,
-    };
-    assert_eq!(rt; first.info, Some(info));
-    let registers = x86_64_registers(first.registers).ok_or("no registers")?;
-    assert_eq!(rt; registers.ip(), 0x40104e);
-    for (register, value) in REGISTERS {
-        assert_eq!(rt; registers.get(register), value);
-    }
-    let second = threads.get(1).copied().ok_or("no second thread")?;
-    assert_eq!(rt;
-        (second.tid, second.offset, second.pac_mask),
-        (32707, 0x13e4, None)
-    );
-    assert_eq!(rt; (second.signal, second.info), (11, None));
-    let registers = x86_64_registers(second.registers).ok_or("no registers")?;
-    assert_eq!(rt;
-        (registers.ip(), registers.sp(), registers.bp()),
-        (0x401088, 0x403488, 0)
-    );
-    assert_eq!(rt; registers.get(Reg::RAX), 0xfffffffffffffdfe);
-    assert!(rt; x86_64_registers(&second.registers[1..]).is_none());
-    Ok(())
+    let file = core(rt.alloc())?;
+    holds(has_both_threads(rt.alloc(), file.as_slice())?)
 }
 
 /// What gdb's `info proc mappings` prints.
-const MAPPED: [(u64, u64, u64); 3] = [
-    (0x400000, 0x401000, 0),
-    (0x401000, 0x402000, 0x1000),
-    (0x402000, 0x403000, 0x2000),
+const MAPPED: [MappedRow; 3] = [
+    (0x400000, 0x401000, 0, b"/usr/local/bin/crash"),
+    (0x401000, 0x402000, 0x1000, b"/usr/local/bin/crash"),
+    (0x402000, 0x403000, 0x2000, b"/usr/local/bin/crash"),
 ];
+
+/// Whether a core file has the process, the vdso and these files.
+fn has_process_and_files(alloc: Global, file: &[u8]) -> Result<bool, Fail> {
+    let dump = read_dump(alloc, file)?;
+    let notes = dump.notes.as_slice();
+    Ok(
+        is_process(notes, 32706, b"crash")
+            && vdso_of(notes) == Some(0x7ff281570000)
+            && are_mapped(alloc, notes, &MAPPED)?,
+    )
+}
 
 #[test]
 fn reads_the_process_and_its_files(rt: HostRuntime) -> Result<(), Fail> {
-    let alloc = rt.alloc();
-    let file = core(alloc)?;
-    let core = read_core_file(alloc, file.as_slice())?;
-    let notes = read_notes(alloc, file.as_slice(), core.segments.as_slice())?;
-    let process = read_process(notes.as_slice())?.ok_or("no process")?;
-    assert_eq!(rt; (process.pid, process.name), (32706, b"crash".as_slice()));
-    assert_eq!(rt; vdso_of(notes.as_slice()), Some(0x7ff281570000));
-    let mapped = read_mapped_files(alloc, notes.as_slice())?;
-    assert_eq!(rt; mapped.len(), 3);
-    for (part, (start, end, offset)) in mapped.iter().zip(MAPPED) {
-        assert_eq!(rt; (part.start, part.end, part.offset), (start, end, offset));
-        assert_eq!(rt; part.path, b"/usr/local/bin/crash".as_slice());
-    }
-    Ok(())
-}
-
-/// The memory of a core file.
-pub(crate) fn memory<'a>(alloc: Global, file: &'a [u8]) -> Result<ProcessMemory<'a>, Fail> {
-    let core = read_core_file(alloc, file)?;
-    let segments = loaded_segments(alloc, core.segments.as_slice())?;
-    Ok(memory_of(alloc, file, segments.as_slice())?)
+    let file = core(rt.alloc())?;
+    holds(has_process_and_files(rt.alloc(), file.as_slice())?)
 }
 
 /// Words by their addresses: the return addresses of gdb's `backtrace`, on both stacks, and what `x/gx`
@@ -264,24 +273,34 @@ const WORDS: [(u64, Option<u64>); 9] = [
     (u64::MAX, None),
 ];
 
+/// Whether memory has the program's first page, which begins with the ELF header, and no byte more.
+fn has_first_page(memory: &ProcessMemory<'_>) -> bool {
+    match memory.bytes_at(0x400000, 0x1000) {
+        Some(page) => {
+            page.len() == 0x1000
+                && front(page, 4) == b"\x7fELF".as_slice()
+                && memory.bytes_at(0x400000, 0x1001).is_none()
+        }
+        None => false,
+    }
+}
+
+/// Words where the file is cut off in the stack: as much is there as comes before.
+const WORDS_OF_CUT: [(u64, Option<u64>); 2] = [
+    (0x7fffb27b2318, Some(0x40106a)),
+    (0x7fffb27b2321, None),
+];
+
+/// Whether a core file has its memory, and where it is cut off.
+fn has_memory(alloc: Global, file: &[u8]) -> Result<bool, Fail> {
+    let whole = memory(alloc, file)?;
+    let ranges = Vec::from_slice(alloc, whole.ranges())?;
+    let cut = ProcessMemory::new(alloc, front(file, 0xe328), ranges)?;
+    Ok(has_words(&whole, &WORDS) && has_first_page(&whole) && has_words(&cut, &WORDS_OF_CUT))
+}
+
 #[test]
 fn reads_memory(rt: HostRuntime) -> Result<(), Fail> {
-    let alloc = rt.alloc();
-    let file = core(alloc)?;
-    let memory = memory(alloc, file.as_slice())?;
-    for (address, word) in WORDS {
-        assert_eq!(rt; memory.word_at(address), word);
-    }
-    // the program's ELF header is in its first page
-    assert_eq!(rt; memory.bytes_at(0x400000, 4), Some(b"\x7fELF".as_slice()));
-    let page = memory.bytes_at(0x400000, 0x1000);
-    assert_eq!(rt; page.map(|page| page.len()), Some(0x1000));
-    assert_eq!(rt; memory.bytes_at(0x400000, 0x1001), None);
-    // where the file is cut off in the stack, as much is there as comes before
-    let front = front(file.as_slice(), 0xe328);
-    let ranges = Vec::from_slice(alloc, memory.ranges())?;
-    let cut = ProcessMemory::new(alloc, front, ranges)?;
-    assert_eq!(rt; cut.word_at(0x7fffb27b2318), Some(0x40106a));
-    assert_eq!(rt; cut.word_at(0x7fffb27b2321), None);
-    Ok(())
+    let file = core(rt.alloc())?;
+    holds(has_memory(rt.alloc(), file.as_slice())?)
 }

@@ -13,6 +13,7 @@
 //!     __builtin_unreachable();
 //! }
 //! ```
+use crate::pieces::holds;
 use framehop_bytes::string::string_at;
 use framehop_elf::build_id::read_build_id;
 use framehop_elf::error::ElfError;
@@ -82,15 +83,6 @@ const LOADED: ProgramHeader = ProgramHeader {
     p_memsz: 0x184,
     p_align: 0x1000,
 };
-
-/// Refuses what does not hold.
-pub(crate) fn holds(is_held: bool) -> Result<(), Fail> {
-    if is_held {
-        Ok(())
-    } else {
-        Err(Fail::from("another value"))
-    }
-}
 
 /// A file, and its headers.
 #[derive(Drop)]

@@ -1,5 +1,6 @@
 //! The README's example of an ELF file, as it is printed there.
-use crate::elf::program::{PROGRAM, holds};
+use crate::elf::program::PROGRAM;
+use crate::pieces::holds;
 use framehop::x86_64::{CacheX86_64, UnwindRegsX86_64, UnwinderX86_64};
 use framehop::{Error, Generations, Module, Unwinder};
 use framehop_elf::header::read_file_header;

@@ -1,8 +1,9 @@
 //! A minidump of aarch64 that was made by hand: `scripts/minidump/made_up_aarch64.py`. The expected values are those
 //! that it is made of; LLDB 19.1 prints the same registers, threads, memory and build ids, and the name of
 //! each module but the third, whose name is not UTF-16.
-use crate::minidump::pieces::{Dump, file_of, holds, memory, read_dump};
-use crate::minidump::x86_64::{has_words, is_string};
+use crate::minidump::pieces::{Dump, memory, read_dump};
+use crate::minidump::x86_64::is_string;
+use crate::pieces::{file_of, has_words, holds};
 use framehop_bytes::bytes::front;
 use framehop_core::aarch64::{PtrAuthMask, UnwindRegsAarch64};
 use framehop_memory::memory::{MemoryRange, ProcessMemory};

@@ -1,7 +1,7 @@
 //! The stream of `/proc/PID/maps` in a minidump that LLDB 19.1 wrote on Linux 6.18 (`process save-core
 //! --plugin-name=minidump --style stack`), and lines that are of another form. The expected regions are those that LLDB
 //! printed of the process (`memory region --all`), without those that are not mapped.
-use crate::minidump::pieces::holds;
+use crate::pieces::holds;
 use framehop_memory::segment::Segment;
 use framehop_minidump::error::MinidumpError;
 use framehop_minidump::linux_maps::read_linux_maps;

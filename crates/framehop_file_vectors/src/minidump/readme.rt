@@ -1,7 +1,7 @@
 //! The README's example of a minidump, as it is printed there, and a test of it: from the minidump of
 //! `x86_64` to the frames that LLDB prints by `thread backtrace all`.
-use crate::minidump::pieces::holds;
 use crate::minidump::x86_64::dump;
+use crate::pieces::holds;
 use framehop::x86_64::{CacheX86_64, UnwindRegsX86_64, UnwinderX86_64};
 use framehop::{ExplicitModuleSectionInfo, Generations, Module, Unwinder};
 use framehop_memory::memory::ProcessMemory;

@@ -1,6 +1,7 @@
 //! Each refusal once, of the two minidumps with a few other bytes.
-use crate::minidump::pieces::{change, holds, memory, read_dump};
+use crate::minidump::pieces::{memory, read_dump};
 use crate::minidump::{aarch64, x86_64};
+use crate::pieces::{change, has_words, holds};
 use framehop_bytes::bytes::front;
 use framehop_memory::memory::ProcessMemory;
 use framehop_minidump::codeview::read_codeview;
@@ -192,7 +193,7 @@ fn takes_the_first(streams: &[Stream], memory: &ProcessMemory<'_>) -> bool {
     let system = read_system_info(file, streams);
     system.is_ok_and(|system| system.machine == Machine::Aarch64)
         && read_exception(file, streams) == Ok(None)
-        && x86_64::has_words(memory, &WORDS_OF_BOTH)
+        && has_words(memory, &WORDS_OF_BOTH)
 }
 
 /// Whether it is so in the file of aarch64 with its changes.

@@ -1,5 +1,5 @@
 //! The names of threads, of a minidump that has nothing else.
-use crate::minidump::pieces::{file_of, holds};
+use crate::pieces::{file_of, holds};
 use framehop_minidump::error::MinidumpError;
 use framehop_minidump::stream::read_streams;
 use framehop_minidump::string::read_far_string;

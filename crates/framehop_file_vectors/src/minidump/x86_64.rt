@@ -2,7 +2,8 @@
 //! stack`) for the program of `scripts/coredump/crash.c`. The bytes of the streams of text
 //! that Linux has in `/proc` are 0. The expected values are those that LLDB printed of the process:
 //! `register read`, `thread list`, `thread backtrace all` and `image list`.
-use crate::minidump::pieces::{Dump, file_of, holds, memory, read_dump};
+use crate::minidump::pieces::{Dump, memory, read_dump};
+use crate::pieces::{file_of, has_words, holds};
 use framehop_bytes::bytes::front;
 use framehop_core::x86_64::{Reg, UnwindRegsX86_64};
 use framehop_memory::memory::ProcessMemory;
@@ -311,16 +312,6 @@ const WORDS: [(u64, Option<u64>); 9] = [
     (0x40104e, None),
     (u64::MAX, None),
 ];
-
-/// Whether these words are read at these addresses.
-pub(crate) fn has_words(memory: &ProcessMemory<'_>, words: &[(u64, Option<u64>)]) -> bool {
-    for (address, word) in words {
-        if memory.word_at(*address) != *word {
-            return false;
-        }
-    }
-    true
-}
 
 /// Whether there is the whole stack of the thread that crashed, and no byte more.
 fn has_stack(memory: &ProcessMemory<'_>) -> bool {

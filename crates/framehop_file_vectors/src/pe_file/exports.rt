@@ -11,6 +11,7 @@
 //! __declspec(dllexport) int number = 7;
 //! int entry(void) { return outer(4) + leaf(3) + number; }
 //! ```
+use crate::pieces::holds;
 use framehop_bytes::string::string_at;
 use framehop_pe_file::exports::{Export, exports_in, read_export_directory};
 use framehop_pe_file::header::{DataDirectory, read_file_header};
@@ -59,55 +60,81 @@ const FUNCTIONS: [(u64, Option<(&str, u64)>); 6] = [
     (0x1043, None),
 ];
 
+/// Where its export directory is.
+const DIRECTORY: DataDirectory = DataDirectory {
+    virtual_address: 0x5000,
+    size: 0x7b,
+};
+
+/// Returns the bytes of the export directory of a file, if it is there.
+fn directory_of(alloc: Global, file: &[u8]) -> Result<&[u8], Fail> {
+    let header = read_file_header(file)?;
+    holds(header.export_directory == Some(DIRECTORY))?;
+    let sections = read_section_headers(alloc, file, header)?;
+    Ok(read_export_directory(file, header, sections.as_slice())?)
+}
+
+/// Whether these are the exports of a directory.
+fn are_exports(directory: &[u8], exports: &[Export]) -> bool {
+    for (export, (name, address)) in exports.iter().zip(EXPORTS) {
+        if export.address != address || string_at(directory, export.name) != name.as_bytes() {
+            return false;
+        }
+    }
+    exports.len() == EXPORTS.len()
+}
+
+/// Whether a file has them in its directory.
+fn has_exports(alloc: Global, file: &[u8]) -> Result<bool, Fail> {
+    let directory = directory_of(alloc, file)?;
+    let exports = exports_in(alloc, 0x5000, directory)?;
+    Ok(are_exports(directory, exports.as_slice()))
+}
+
 #[test]
 fn lists_what_a_library_exports(rt: HostRuntime) -> Result<(), Fail> {
     let file = hex::decode(rt.alloc(), LIBRARY)?;
-    let header = read_file_header(&file)?;
-    assert_eq!(rt;
-        header.export_directory,
-        Some(DataDirectory {
-            virtual_address: 0x5000,
-            size: 0x7b
-        })
-    );
-    let sections = read_section_headers(rt.alloc(), &file, header)?;
-    let directory = read_export_directory(&file, header, &sections)?;
-    let exports = exports_in(rt.alloc(), 0x5000, directory)?;
-    assert_eq!(rt; exports.len(), EXPORTS.len());
-    for (export, (name, address)) in exports.iter().zip(EXPORTS) {
-        assert_eq!(rt; export.address, address);
-        assert_eq!(rt; string_at(directory, export.name), name.as_bytes());
-    }
-    Ok(())
+    holds(has_exports(rt.alloc(), file.as_slice())?)
+}
+
+/// Returns how many exports are in the first 39 bytes of a file's directory.
+fn exports_in_cut(alloc: Global, file: &[u8]) -> Result<usize, Fail> {
+    let directory = directory_of(alloc, file)?;
+    let cut = directory.get(..39).ok_or("the directory is shorter")?;
+    Ok(exports_in(alloc, 0x5000, cut)?.len())
 }
 
 #[test]
 fn a_directory_without_its_table_exports_nothing(rt: HostRuntime) -> Result<(), Fail> {
     let file = hex::decode(rt.alloc(), LIBRARY)?;
-    let header = read_file_header(&file)?;
-    let sections = read_section_headers(rt.alloc(), &file, header)?;
-    let directory = read_export_directory(&file, header, &sections)?;
-    let cut = directory.get(..39).ok_or("the directory is shorter")?;
-    let none: Vec<Export> = exports_in(rt.alloc(), 0x5000, cut)?;
-    assert_eq!(rt; none.len(), 0);
-    Ok(())
+    holds(exports_in_cut(rt.alloc(), file.as_slice())? == 0)
+}
+
+/// Whether the function at an address is this one.
+fn is_function(object: &ObjectFile, svma: u64, expected: Option<(&str, u64)>) -> bool {
+    match (object.function_at(svma), expected) {
+        (Some((name, offset)), Some((expected_name, expected_offset))) => {
+            name == expected_name.as_bytes() && offset == expected_offset
+        }
+        (found, expected) => found.is_some() == expected.is_some(),
+    }
+}
+
+/// Whether a file has its functions at addresses, and the starts of those that are not exported.
+fn has_functions(object: &ObjectFile) -> bool {
+    for (svma, expected) in FUNCTIONS {
+        if !is_function(object, svma, expected) {
+            return false;
+        }
+    }
+    object.unnamed_start(0x1003) == Some(0x1000)
+        && object.unnamed_start(0x1043) == Some(0x101b)
+        && object.unnamed_start(0x1044).is_none()
 }
 
 #[test]
 fn names_the_functions_that_a_library_exports(rt: HostRuntime) -> Result<(), Fail> {
     let file = hex::decode(rt.alloc(), LIBRARY)?;
-    let object = ObjectFile::new(rt.alloc(), &file, &[])?;
-    for (svma, expected) in FUNCTIONS {
-        match (object.function_at(svma), expected) {
-            (Some((name, offset)), Some((expected_name, expected_offset))) => {
-                assert_eq!(rt; name, expected_name.as_bytes());
-                assert_eq!(rt; offset, expected_offset);
-            }
-            (found, expected) => assert_eq!(rt; found.is_some(), expected.is_some()),
-        }
-    }
-    assert_eq!(rt; object.unnamed_start(0x1003), Some(0x1000));
-    assert_eq!(rt; object.unnamed_start(0x1043), Some(0x101b));
-    assert_eq!(rt; object.unnamed_start(0x1044), None);
-    Ok(())
+    let object = ObjectFile::new(rt.alloc(), file.as_slice(), &[])?;
+    holds(has_functions(&object))
 }

@@ -11,6 +11,7 @@
 //! static const char *volatile name = "small";
 //! int start(void) { return outer(4) + name[0]; }
 //! ```
+use crate::pieces::{change, holds};
 use framehop_pe_file::codeview::read_rsds;
 use framehop_pe_file::header::{DataDirectory, FileHeader, Machine, read_file_header};
 use framehop_pe_file::rva::{read_at_rva, section_with_rva};
@@ -48,11 +49,7 @@ pub(crate) const PROGRAM: &str =
 /// The program with other bytes at an offset.
 pub(crate) fn changed(alloc: Global, offset: usize, bytes: &[u8]) -> Result<Vec<u8>, Fail> {
     let mut program = hex::decode(alloc, PROGRAM)?;
-    let mut at = offset;
-    for byte in bytes {
-        *program.get_mut(at).ok_or("no such byte")? = *byte;
-        at += 1;
-    }
+    change(program.as_mut_slice(), offset, bytes).ok_or("no such byte")?;
     Ok(program)
 }
 
@@ -87,28 +84,32 @@ const BUILDID: SectionHeader = SectionHeader {
     characteristics: 0x40000040,
 };
 
+/// Returns the headers of the program with other bytes at an offset.
+fn header_with(alloc: Global, offset: usize, bytes: &[u8]) -> Result<FileHeader, Fail> {
+    let program = changed(alloc, offset, bytes)?;
+    Ok(read_file_header(program.as_slice())?)
+}
+
+/// ARM64, and ARM64EC.
+const MACHINES: [([u8; 2], Machine); 2] = [
+    ([0x64, 0xaa], Machine::Aarch64),
+    ([0x41, 0xa6], Machine::Other(0xa641)),
+];
+
+/// Bytes at offsets, and whether there is a directory of exceptions: an optional header with room for six data directories,
+/// and one that says that it has three. There is none of debugging.
+const FEWER_DIRECTORIES: [(usize, u8, bool); 2] = [(0x94, 160, true), (0x104, 3, false)];
+
 #[test]
 fn reads_the_headers(rt: HostRuntime) -> Result<(), Fail> {
-    let program = hex::decode(rt.alloc(), PROGRAM)?;
-    assert_eq!(rt; read_file_header(program.as_slice()), Ok(HEADER));
-    // ARM64, and ARM64EC
-    for (bytes, machine) in [
-        ([0x64, 0xaa], Machine::Aarch64),
-        ([0x41, 0xa6], Machine::Other(0xa641)),
-    ] {
-        let program = changed(rt.alloc(), 0x84, &bytes)?;
-        let read = read_file_header(program.as_slice()).map(|header| header.machine);
-        assert_eq!(rt; read, Ok(machine));
+    holds(header_with(rt.alloc(), 0, b"MZ")? == HEADER)?;
+    for (bytes, machine) in MACHINES {
+        holds(header_with(rt.alloc(), 0x84, &bytes)?.machine == machine)?;
     }
-    // an optional header with room for six data directories, and one that says that it has three
-    for (offset, byte, has_exceptions) in [(0x94, 160, true), (0x104, 3, false)] {
-        let program = changed(rt.alloc(), offset, &[byte])?;
-        let read = read_file_header(program.as_slice());
-        let directories = read.map(|read| (
-            read.exception_directory.is_some(),
-            read.debug_directory.is_some(),
-        ));
-        assert_eq!(rt; directories, Ok((has_exceptions, false)));
+    for (offset, byte, has_exceptions) in FEWER_DIRECTORIES {
+        let read = header_with(rt.alloc(), offset, &[byte])?;
+        holds(read.exception_directory.is_some() == has_exceptions)?;
+        holds(read.debug_directory.is_none())?;
     }
     Ok(())
 }
@@ -136,17 +137,22 @@ fn has_bytes_at_rvas(file: &[u8], sections: &[SectionHeader]) -> bool {
         && section_with_rva(sections, 0x4034, 11).is_none()
 }
 
+/// Whether a file has the sections of the program.
+fn has_sections(alloc: Global, file: &[u8]) -> Result<bool, Fail> {
+    let headers = read_section_headers(alloc, file, HEADER)?;
+    let sections = headers.as_slice();
+    Ok(
+        sections.len() == 7
+            && has_buildid(file, sections)
+            && has_bytes_at_rvas(file, sections)
+            && section_by_name(sections, b".build").is_none(),
+    )
+}
+
 #[test]
 fn reads_the_sections(rt: HostRuntime) -> Result<(), Fail> {
     let program = hex::decode(rt.alloc(), PROGRAM)?;
-    let file = program.as_slice();
-    let headers = read_section_headers(rt.alloc(), file, HEADER)?;
-    let sections = headers.as_slice();
-    assert_eq!(rt; sections.len(), 7);
-    assert!(rt; has_buildid(file, sections));
-    assert!(rt; has_bytes_at_rvas(file, sections));
-    assert!(rt; section_by_name(sections, b".build").is_none());
-    Ok(())
+    holds(has_sections(rt.alloc(), program.as_slice())?)
 }
 
 /// The GUID of the program's database.
@@ -174,19 +180,20 @@ const WITHOUT_RECORD: [(usize, u8); 6] = [
     (0x33c, b'N'),
 ];
 
+/// The same of the program with other bytes at an offset.
+fn has_record_with(alloc: Global, offset: usize, bytes: &[u8]) -> Result<Option<bool>, Fail> {
+    let program = changed(alloc, offset, bytes)?;
+    let file = program.as_slice();
+    let header = read_file_header(file)?;
+    let sections = read_section_headers(alloc, file, HEADER)?;
+    Ok(has_record(file, sections.as_slice(), header))
+}
+
 #[test]
 fn reads_the_codeview_record(rt: HostRuntime) -> Result<(), Fail> {
-    let program = hex::decode(rt.alloc(), PROGRAM)?;
-    let headers = read_section_headers(rt.alloc(), program.as_slice(), HEADER)?;
-    let sections = headers.as_slice();
-    assert_eq!(rt;
-        has_record(program.as_slice(), sections, HEADER),
-        Some(true)
-    );
+    holds(has_record_with(rt.alloc(), 0, b"MZ")? == Some(true))?;
     for (offset, byte) in WITHOUT_RECORD {
-        let program = changed(rt.alloc(), offset, &[byte])?;
-        let header = read_file_header(program.as_slice())?;
-        assert_eq!(rt; has_record(program.as_slice(), sections, header), None);
+        holds(has_record_with(rt.alloc(), offset, &[byte])?.is_none())?;
     }
     Ok(())
 }

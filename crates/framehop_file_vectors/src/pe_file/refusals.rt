@@ -1,5 +1,6 @@
 //! Each refusal, of the program with a few other bytes.
-use crate::pe_file::program::changed;
+use crate::pe_file::program::{PROGRAM, changed};
+use crate::pieces::holds;
 use framehop_bytes::bytes::front;
 use framehop_pe_file::codeview::read_rsds;
 use framehop_pe_file::error::PeError;
@@ -36,22 +37,24 @@ const CHANGES: [(usize, &[u8], PeError); 11] = [
     (0x217, &[0xff], PeError::Eof { offset: 0xff000320 }),
 ];
 
+/// Reads the program with other bytes at an offset.
+fn read_changed(alloc: Global, offset: usize, bytes: &[u8]) -> Result<Result<(), PeError>, Fail> {
+    let program = changed(alloc, offset, bytes)?;
+    Ok(read_all(alloc, program.as_slice()))
+}
+
+/// Whether the program is read, and is refused where it is cut off in a header.
+fn refuses_cut_off(alloc: Global, file: &[u8]) -> bool {
+    read_all(alloc, file) == Ok(())
+        && read_all(alloc, front(file, 63)) == Err(PeError::Eof { offset: 0 })
+        && read_all(alloc, front(file, 0x99)) == Err(PeError::Eof { offset: 0x80 })
+}
+
 #[test]
 fn refuses_what_is_broken(rt: HostRuntime) -> Result<(), Fail> {
     for (offset, bytes, refusal) in CHANGES {
-        let program = changed(rt.alloc(), offset, bytes)?;
-        assert_eq!(rt; read_all(rt.alloc(), program.as_slice()), Err(refusal));
+        holds(read_changed(rt.alloc(), offset, bytes)? == Err(refusal))?;
     }
-    let program = changed(rt.alloc(), 0, b"MZ")?;
-    let file = program.as_slice();
-    assert_eq!(rt; read_all(rt.alloc(), file), Ok(()));
-    assert_eq!(rt;
-        read_all(rt.alloc(), front(file, 63)),
-        Err(PeError::Eof { offset: 0 })
-    );
-    assert_eq!(rt;
-        read_all(rt.alloc(), front(file, 0x99)),
-        Err(PeError::Eof { offset: 0x80 })
-    );
-    Ok(())
+    let program = hex::decode(rt.alloc(), PROGRAM)?;
+    holds(refuses_cut_off(rt.alloc(), program.as_slice()))
 }

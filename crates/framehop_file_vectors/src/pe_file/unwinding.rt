@@ -1,7 +1,8 @@
 //! What an unwinder needs of the program, and a walk by it.
 use crate::pe_file::program::{PROGRAM, changed};
+use crate::pieces::holds;
 use framehop::x86_64::{CacheX86_64, UnwindRegsX86_64, UnwinderX86_64};
-use framehop::{Generations, Module, Unwinder};
+use framehop::{Error, Generations, Module, Unwinder};
 use framehop_bytes::section::ModuleSectionInfo;
 use framehop_pe_file::header::read_file_header;
 use framehop_pe_file::section_header::read_section_headers;
@@ -41,38 +42,64 @@ fn unwind_sections(alloc: Global, file: &[u8]) -> Result<PeUnwindSections<&[u8]>
     Ok(lend_unwind_sections(file, header, headers.as_slice()))
 }
 
+/// Whether a file has all of the program's sections, and no segment.
+fn has_all_sections(alloc: Global, file: &[u8]) -> Result<bool, Fail> {
+    let mut info = unwind_sections(alloc, file)?;
+    for section in &SECTIONS {
+        if !has_section(&mut info, section) {
+            return Ok(false);
+        }
+    }
+    Ok(has_no_others(&mut info))
+}
+
+/// Whether a module has the program's base, no section of another name, and no segment.
+fn has_no_others(info: &mut PeUnwindSections<&[u8]>) -> bool {
+    info.base_svma() == 0x140000000
+        && info.section_data(b".data").is_none()
+        && info.segment_svma_range(b".text").is_none()
+        && info.segment_data(b".text").is_none()
+}
+
 #[test]
 fn lends_what_an_unwinder_needs(rt: HostRuntime) -> Result<(), Fail> {
     // then `.pdata` has another name, and the data directory of exceptions leads to its bytes
     for name in [b".pdata", b".qdata"] {
         let program = changed(rt.alloc(), 0x228, name)?;
-        let mut info = unwind_sections(rt.alloc(), program.as_slice())?;
-        assert_eq!(rt; info.base_svma(), 0x140000000);
-        for section in &SECTIONS {
-            assert!(rt; has_section(&mut info, section));
-        }
-        assert!(rt; info.section_data(b".data").is_none());
-        assert!(rt; info.segment_svma_range(b".text").is_none());
-        assert!(rt; info.segment_data(b".text").is_none());
+        holds(has_all_sections(rt.alloc(), program.as_slice())?)?;
     }
     Ok(())
+}
+
+/// Whether the program with other bytes at an offset has this section.
+fn has_section_with(
+    alloc: Global,
+    offset: usize,
+    bytes: &[u8],
+    section: &Section,
+) -> Result<bool, Fail> {
+    let program = changed(alloc, offset, bytes)?;
+    let mut info = unwind_sections(alloc, program.as_slice())?;
+    Ok(has_section(&mut info, section))
+}
+
+/// Whether a file has `.text` and no `.pdata`.
+fn has_no_pdata(alloc: Global, file: &[u8]) -> Result<bool, Fail> {
+    let info = unwind_sections(alloc, file)?;
+    Ok(info.pdata.is_none() && info.pdata_svma.is_none() && info.text.is_some())
 }
 
 #[test]
 fn cuts_and_leaves_out_sections(rt: HostRuntime) -> Result<(), Fail> {
     // `.rdata` is larger in memory than in the file
-    let program = changed(rt.alloc(), 0x1e0, &[0x20])?;
-    let mut info = unwind_sections(rt.alloc(), program.as_slice())?;
-    assert!(rt; has_section(&mut info, &(b".rdata", 0x140003000..0x140003020, 0x10)));
+    let larger = (b".rdata".as_slice(), 0x140003000..0x140003020, 0x10);
+    holds(has_section_with(rt.alloc(), 0x1e0, &[0x20], &larger)?)?;
+    // the image ends above the last address
+    let above = (b".text".as_slice(), u64::MAX..u64::MAX, 0x60);
+    holds(has_section_with(rt.alloc(), 0xb0, &[0xff; 8], &above)?)?;
     // `.pdata` is outside of the file, and with it the data directory of exceptions
     let program = changed(rt.alloc(), 0x23f, &[0xff])?;
-    let info = unwind_sections(rt.alloc(), program.as_slice())?;
-    assert!(rt; info.pdata.is_none() && info.pdata_svma.is_none() && info.text.is_some());
-    // the image ends above the last address
-    let program = changed(rt.alloc(), 0xb0, &[0xff; 8])?;
-    let mut info = unwind_sections(rt.alloc(), program.as_slice())?;
-    assert!(rt; has_section(&mut info, &(b".text", u64::MAX..u64::MAX, 0x60)));
-    Ok(())
+    holds(has_no_pdata(rt.alloc(), program.as_slice())?)
 }
 
 /// The stack of the first instruction of `inner`, which `outer` called, which `start` did: the return addresses are
@@ -93,8 +120,8 @@ const STACK: [u64; 13] = [
     0,
 ];
 
-/// The walk's addresses, each within the instruction that called.
-const ADDRESSES: [u64; 3] = [0x7ff600001000, 0x7ff60000100c, 0x7ff600001022];
+/// The walk's addresses, each within the instruction that called; then it is at its end.
+const ADDRESSES: [u64; 4] = [0x7ff600001000, 0x7ff60000100c, 0x7ff600001022, 0];
 
 /// A module of a PE file, of which it has copies, and which is loaded at an address (AVMA).
 fn module_of_file(alloc: Global, file: &[u8], base: u64) -> Result<Module<Vec<u8>>, Fail> {
@@ -106,27 +133,43 @@ fn module_of_file(alloc: Global, file: &[u8], base: u64) -> Result<Module<Vec<u8
     Ok(Module::new(alloc, name, base..end, base, sections)?)
 }
 
+/// An unwinder that has the program's module.
+fn unwinder(alloc: Global, file: &[u8]) -> Result<UnwinderX86_64<Vec<u8>>, Fail> {
+    let module = module_of_file(alloc, file, 0x7ff600000000)?;
+    let mut generations = Generations::new();
+    let mut unwinder: UnwinderX86_64<Vec<u8>> = UnwinderX86_64::new(alloc, &mut generations)?;
+    match unwinder.add_module(module, &mut generations) {
+        Ok(()) => Ok(unwinder),
+        Err(refused) => Err(refused.cause)?,
+    }
+}
+
+/// The addresses of what four calls of an iterator over the stack give; 0 where there is no frame.
+fn addresses(
+    unwinder: &UnwinderX86_64<Vec<u8>>,
+    cache: &mut CacheX86_64,
+) -> Result<[u64; 4], Error> {
+    let mut read_stack = |address: u64| STACK.get((address / 8) as usize).copied().ok_or(());
+    let regs = UnwindRegsX86_64::new(0x7ff600001000, 0, 1);
+    let mut walk = unwinder.iter_frames(regs.ip(), regs, cache, &mut read_stack);
+    let mut addresses = [0; 4];
+    for address in &mut addresses {
+        if let Some(frame) = walk.next()? {
+            *address = frame.address_for_lookup();
+        }
+    }
+    Ok(addresses)
+}
+
+/// Whether the frames of the stack are found.
+fn finds_the_frames(alloc: Global, file: &[u8]) -> Result<bool, Fail> {
+    let unwinder = unwinder(alloc, file)?;
+    let mut cache = CacheX86_64::new(alloc)?;
+    Ok(addresses(&unwinder, &mut cache) == Ok(ADDRESSES))
+}
+
 #[test]
 fn walks_through_a_file(rt: HostRuntime) -> Result<(), Fail> {
-    let alloc = rt.alloc();
-    let program = hex::decode(alloc, PROGRAM)?;
-    let mut generations = Generations::new();
-    let mut cache = CacheX86_64::new(alloc)?;
-    let mut unwinder: UnwinderX86_64<Vec<u8>> = UnwinderX86_64::new(alloc, &mut generations)?;
-    let module = module_of_file(alloc, program.as_slice(), 0x7ff600000000)?;
-    if let Err(refused) = unwinder.add_module(module, &mut generations) {
-        return Err(refused.cause)?;
-    }
-    let mut read_stack = |address: u64| STACK.get((address / 8) as usize).copied().ok_or(());
-    let regs = UnwindRegsX86_64::new(ADDRESSES[0], 0, 1);
-    let mut walk = unwinder.iter_frames(regs.ip(), regs, &mut cache, &mut read_stack);
-    for address in ADDRESSES {
-        let frame = walk.next()?;
-        assert_eq!(rt;
-            frame.map(|frame| frame.address_for_lookup()),
-            Some(address)
-        );
-    }
-    assert_eq!(rt; walk.next()?, None);
-    Ok(())
+    let program = hex::decode(rt.alloc(), PROGRAM)?;
+    holds(finds_the_frames(rt.alloc(), program.as_slice())?)
 }

@@ -2,8 +2,10 @@
 //! perf 6.1.187 on x86_64, in which a program ran that gives each register another value; and a mapping
 //! with a build id, of `perf record --buildid-mmap`. Their names were replaced. The expected values are
 //! those that `perf script -D` prints.
+use crate::pieces::holds;
 use crate::recording::x86_64::{EXIT as EXIT_OF_A_THREAD, MAPPING as MAPPING_OF_A_FILE, record_of};
 use framehop_core::x86_64::{Reg, UnwindRegsX86_64};
+use framehop_recording::attributes::Attribute;
 use framehop_recording::error::RecordingError;
 use framehop_recording::events::{Events, read_events};
 use framehop_recording::header::read_header;
@@ -162,19 +164,28 @@ const MAPPINGS: [Mapped; 4] = [
     ),
 ];
 
+/// Whether a record is of this mapping.
+fn is_mapping((bytes, kind, place, is_executable, name, build_id): &Mapped) -> bool {
+    let record = record_of(bytes);
+    let Ok(read) = read_mapping(record) else {
+        return false;
+    };
+    record.kind == *kind
+        && (read.pid, read.start, read.size, read.offset) == *place
+        && read.is_executable == *is_executable
+        && read.name == *name
+        && read.build_id == *build_id
+}
+
 #[test]
 fn reads_mappings(rt: HostRuntime) -> Result<(), Fail> {
-    for (bytes, kind, place, is_executable, name, build_id) in &MAPPINGS {
-        let record = record_of(bytes);
-        let read = read_mapping(record)?;
-        let found = (read.pid, read.start, read.size, read.offset);
-        assert!(rt; record.kind == *kind && found == *place);
-        assert!(rt; read.is_executable == *is_executable);
-        assert!(rt; read.name == *name && read.build_id == *build_id);
+    for mapping in &MAPPINGS {
+        holds(is_mapping(mapping))?;
     }
     Ok(())
 }
 
+/// A record, its kind, and what is read of it.
 const TASKS: [(&[u8], u32, Task); 3] = [
     (
         &MADE_UP,
@@ -254,18 +265,25 @@ pub(crate) fn events_of(alloc: Global, file: &[u8]) -> Result<Events<'_>, Record
     read_events(alloc, file, &header)
 }
 
+/// Whether the sample is read, with its stack and its registers.
+fn has_sample(attribute: &Attribute<'_>) -> Result<bool, RecordingError> {
+    let sample = read_sample(attribute, record_of(&SAMPLE))?;
+    let user = sample.user?;
+    let found = x86_64_registers(attribute.sample_regs_user, user.registers);
+    Ok(
+        (sample.ip, sample.pid, sample.tid, sample.time)
+            == (0x401053, 22494, 22494, Some(879621395511))
+            && user.stack.len() == 16
+            && user.stack.first().copied() == Some(1)
+            && found == Some(registers()),
+    )
+}
+
 #[test]
 fn reads_each_register(rt: HostRuntime) -> Result<(), Fail> {
     let events = events_of(rt.alloc(), &FRONT)?;
     let attribute = events.attributes.get(0).ok_or("no event")?;
-    let sample = read_sample(attribute, record_of(&SAMPLE))?;
-    let found = (sample.ip, sample.pid, sample.tid, sample.time);
-    assert!(rt; found == (0x401053, 22494, 22494, Some(879621395511)));
-    let user = sample.user?;
-    assert!(rt; user.stack.len() == 16 && user.stack.first().copied() == Some(1));
-    let found = x86_64_registers(attribute.sample_regs_user, user.registers);
-    assert!(rt; found == Some(registers()));
-    Ok(())
+    holds(has_sample(attribute)?)
 }
 
 /// A record, its kind, the number of its event, and its time.
@@ -277,13 +295,22 @@ const RECORDS: [(&[u8], u32, usize, u64); 5] = [
     (&SAMPLE, kind::SAMPLE, 0, 879621395511),
 ];
 
+/// Whether each record has its kind, its event and its time.
+fn has_records(events: &Events<'_>) -> bool {
+    for (bytes, kind, event, time) in &RECORDS {
+        let record = record_of(bytes);
+        if record.kind != *kind
+            || events.event_of(record) != Some(*event)
+            || events.time_of(record) != Some(*time)
+        {
+            return false;
+        }
+    }
+    true
+}
+
 #[test]
 fn reads_ids_and_times_at_the_end_of_records(rt: HostRuntime) -> Result<(), Fail> {
     let events = events_of(rt.alloc(), &FRONT)?;
-    for (bytes, kind, event, time) in &RECORDS {
-        let record = record_of(bytes);
-        assert!(rt; record.kind == *kind && events.event_of(record) == Some(*event));
-        assert!(rt; events.time_of(record) == Some(*time));
-    }
-    Ok(())
+    holds(has_records(&events))
 }

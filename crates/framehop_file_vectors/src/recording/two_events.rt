@@ -2,12 +2,16 @@
 //! cpu-clock:u,task-clock:u --call-graph dwarf,64`, of a program whose path was replaced. Its events have
 //! PERF_SAMPLE_ID and no PERF_SAMPLE_IDENTIFIER. The expected values are those that `perf script -D`,
 //! `perf script -F time,event` and `perf buildid-list` print.
+use crate::pieces::holds;
 use crate::recording::machine::events_of;
 use crate::recording::x86_64::record_of;
 use framehop_recording::build_ids::{FileBuildId, read_build_ids};
+use framehop_recording::error::RecordingError;
+use framehop_recording::events::Events;
 use framehop_recording::header::{Header, Section};
-use framehop_recording::order::in_order_of_time;
+use framehop_recording::order::{TimedRecord, in_order_of_time};
 use framehop_recording::records::Record;
+use std::alloc::Global;
 use std::test::Fail;
 
 /// The header, the ids and the two attributes.
@@ -118,17 +122,29 @@ const RECORDS: [(&[u8], Option<usize>); 3] = [
     (&ROUND, None),
 ];
 
+/// Whether the events of a recording are two, each sample and record is of its event, and one has no time.
+fn tells_apart(events: &Events<'_>) -> bool {
+    for (bytes, event) in &RECORDS {
+        if events.event_of(record_of(bytes)) != *event {
+            return false;
+        }
+    }
+    events.attributes.len() == 2
+        && events.event_of(sample(&CPU_CLOCK)) == Some(0)
+        && events.event_of(sample(&TASK_CLOCK)) == Some(1)
+        && events.time_of(record_of(&TIMELESS)).is_none()
+}
+
 #[test]
 fn tells_two_events_apart(rt: HostRuntime) -> Result<(), Fail> {
     let events = events_of(rt.alloc(), &FRONT)?;
-    assert!(rt; events.attributes.len() == 2);
-    assert!(rt; events.event_of(sample(&CPU_CLOCK)) == Some(0));
-    assert!(rt; events.event_of(sample(&TASK_CLOCK)) == Some(1));
-    for (bytes, event) in &RECORDS {
-        assert!(rt; events.event_of(record_of(bytes)) == *event);
-    }
-    assert!(rt; events.time_of(record_of(&TIMELESS)).is_none());
-    Ok(())
+    holds(tells_apart(&events))
+}
+
+/// Whether each of the samples without PERF_SAMPLE_ADDR is of its event.
+fn tells_short_samples_apart(events: &Events<'_>) -> bool {
+    events.event_of(sample(&SHORT_CPU_CLOCK)) == Some(0)
+        && events.event_of(sample(&SHORT_TASK_CLOCK)) == Some(1)
 }
 
 #[test]
@@ -138,11 +154,10 @@ fn finds_ids_where_samples_have_no_address(rt: HostRuntime) -> Result<(), Fail> 
     front[192] = 0x67;
     front[336] = 0x67;
     let events = events_of(rt.alloc(), &front)?;
-    assert!(rt; events.event_of(sample(&SHORT_CPU_CLOCK)) == Some(0));
-    assert!(rt; events.event_of(sample(&SHORT_TASK_CLOCK)) == Some(1));
-    Ok(())
+    holds(tells_short_samples_apart(&events))
 }
 
+/// The times and the kinds of five records in their order.
 const IN_ORDER: [(u64, u32); 5] = [
     (0, 3),
     (2553713447497, 3),
@@ -151,9 +166,18 @@ const IN_ORDER: [(u64, u32); 5] = [
     (2553918257154, 4),
 ];
 
-#[test]
-fn orders_records_by_time(rt: HostRuntime) -> Result<(), Fail> {
-    let events = events_of(rt.alloc(), &FRONT)?;
+/// Whether records are in this order.
+fn are_in_order(found: &[TimedRecord<'_>]) -> bool {
+    for (timed, expected) in found.iter().zip(&IN_ORDER) {
+        if (timed.time, timed.record.kind) != *expected {
+            return false;
+        }
+    }
+    found.len() == IN_ORDER.len()
+}
+
+/// Whether five records of a recording are brought into this order.
+fn orders(alloc: Global, events: &Events<'_>) -> Result<bool, RecordingError> {
     let records = [
         record_of(&EXIT),
         sample(&TASK_CLOCK),
@@ -161,12 +185,14 @@ fn orders_records_by_time(rt: HostRuntime) -> Result<(), Fail> {
         sample(&CPU_CLOCK),
         record_of(&EXEC),
     ];
-    let found = in_order_of_time(rt.alloc(), &events, &records)?;
-    assert!(rt; found.len() == IN_ORDER.len());
-    for (timed, expected) in found.iter().zip(&IN_ORDER) {
-        assert!(rt; (timed.time, timed.record.kind) == *expected);
-    }
-    Ok(())
+    let found = in_order_of_time(alloc, events, &records)?;
+    Ok(are_in_order(found.as_slice()))
+}
+
+#[test]
+fn orders_records_by_time(rt: HostRuntime) -> Result<(), Fail> {
+    let events = events_of(rt.alloc(), &FRONT)?;
+    holds(orders(rt.alloc(), &events)?)
 }
 
 /// The section after that of HEADER_TRACING_DATA, and with a build id of 16 bytes.
@@ -246,11 +272,16 @@ fn are_ids(read: &[FileBuildId<'_>], ids: &[(&[u8], &[u8])]) -> bool {
     true
 }
 
+/// Whether a file has these build ids.
+fn has_ids(alloc: Global, (features, bytes, ids): &Ids) -> Result<bool, RecordingError> {
+    let read = read_build_ids(alloc, bytes, &header_with(*features))?;
+    Ok(are_ids(read.as_slice(), ids))
+}
+
 #[test]
 fn reads_build_ids(rt: HostRuntime) -> Result<(), Fail> {
-    for (features, bytes, ids) in &FILES {
-        let read = read_build_ids(rt.alloc(), bytes, &header_with(*features))?;
-        assert!(rt; are_ids(read.as_slice(), ids), "{features:x}");
+    for file in &FILES {
+        holds(has_ids(rt.alloc(), file)?)?;
     }
     Ok(())
 }

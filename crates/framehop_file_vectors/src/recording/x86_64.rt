@@ -1,12 +1,14 @@
 //! Pieces of a recording of perf 6.1.187 on x86_64, `perf record -e cpu-clock:u --call-graph dwarf,64`,
 //! of a program of nine instructions whose path was replaced. The expected values are those that
 //! `perf script -D` prints.
+use crate::pieces::holds;
 use framehop_recording::attributes::read_attribute;
 use framehop_recording::error::RecordingError;
 use framehop_recording::header::{Header, Section, read_header};
 use framehop_recording::kind;
 use framehop_recording::records::{Record, read_records};
 use framehop_recording::tasks::{read_command, read_lost, read_lost_samples};
+use std::alloc::Global;
 use std::test::Fail;
 
 /// The header, the ids and the attribute.
@@ -187,20 +189,27 @@ const SECTIONS: [Records; 6] = [
     ),
 ];
 
+/// Whether so much is read of a section.
+fn is_section(
+    alloc: Global,
+    (bytes, offset, size, count, last, refusal): &Records,
+) -> Result<bool, Fail> {
+    let section = Section {
+        offset: *offset,
+        size: *size,
+    };
+    let read = read_records(alloc, bytes, section)?;
+    let found = match read.records.last() {
+        Some(record) => record.kind,
+        None => 0,
+    };
+    Ok(read.refusal == *refusal && read.records.len() == *count && found == *last)
+}
+
 #[test]
 fn reads_records(rt: HostRuntime) -> Result<(), Fail> {
-    for (bytes, offset, size, count, last, refusal) in &SECTIONS {
-        let section = Section {
-            offset: *offset,
-            size: *size,
-        };
-        let read = read_records(rt.alloc(), bytes, section)?;
-        assert!(rt; read.refusal == *refusal && read.records.len() == *count);
-        let found = match read.records.last() {
-            Some(record) => record.kind,
-            None => 0,
-        };
-        assert!(rt; found == *last);
+    for section in &SECTIONS {
+        holds(is_section(rt.alloc(), section)?)?;
     }
     Ok(())
 }
