@@ -1,4 +1,5 @@
 //! Memory and code of many ranges, in any order, and of ranges that overlap. The words are those of the file at the ranges' offsets.
+use framehop_memory::by_address::SegmentsByAddress;
 use framehop_memory::code::CodeSegments;
 use framehop_memory::memory::{MemoryRange, ProcessMemory};
 use framehop_memory::segment::Segment;
@@ -247,5 +248,36 @@ fn finds_code_that_overlaps(rt: HostRuntime) -> Result<(), Fail> {
     assert!(rt; !code.is_code_at(0x4000));
     assert!(rt; !code.is_code_at(0xfff));
     assert!(rt; code.is_code_at(u64::MAX));
+    Ok(())
+}
+
+/// Whether each of so many segments, of 16 bytes, is found by the addresses that it has, and none by the one after them.
+fn finds_each_segment(segments: &SegmentsByAddress<'_>, count: u64) -> bool {
+    let address_at = |address| segments.at(address).map(|segment| segment.address);
+    (0..count).all(|index| {
+        let start = start_of(index);
+        address_at(start) == Some(start)
+            && address_at(start.wrapping_add(15)) == Some(start)
+            && address_at(start.wrapping_add(16)).is_none()
+    })
+}
+
+#[test]
+fn finds_the_first_segment(rt: HostRuntime) -> Result<(), Fail> {
+    let mut segments = segments_backwards(rt.alloc(), MANY)?;
+    let apart = SegmentsByAddress::new(rt.alloc(), segments.as_slice())?;
+    assert!(rt; finds_each_segment(&apart, MANY));
+    drop(apart);
+    segments.push(segment(start_of(MANY), 32, true))?;
+    segments.push(segment(start_of(MANY).wrapping_add(16), 32, false))?;
+    let overlapping = SegmentsByAddress::new(rt.alloc(), segments.as_slice())?;
+    assert!(rt; finds_each_segment(&overlapping, MANY));
+    let is_code_at = |offset| {
+        let address = start_of(MANY).wrapping_add(offset);
+        overlapping.at(address).map(|segment| segment.is_code)
+    };
+    assert_eq!(rt; is_code_at(31), Some(true));
+    assert_eq!(rt; is_code_at(32), Some(false));
+    assert_eq!(rt; is_code_at(48), None);
     Ok(())
 }
