@@ -1,5 +1,5 @@
 //! The mappings of a process: the expected values were worked out by hand.
-ghost use Rattle.std.specs.Prelude.{◌≡◌, IfOk};
+ghost use Rattle.std.specs.Prelude.{◌≡◌, ◌<◌, ◌+◌, ◌*◌, IfOk};
 ghost use Rattle.framehop_processes.specs.Process.{HasModules};
 ghost use Rattle.framehop_vectors.specs.Bare.{bare};
 
@@ -322,7 +322,8 @@ const PAGES: u64 = 5000;
 /// The mapping of a page and half of the next.
 fn page(index: u64) -> Mapping
     requires { index < 5000 }
-    ensures { result.start < result.end }
+    ensures start { result.start ≡ 4096 * index }
+    ensures end { result.end ≡ 4096 * index + 6144 }
 {
     let start = 0x1000 * index;
     Mapping {
@@ -373,7 +374,11 @@ fn are_left(mappings: &[Mapping], is_rising: bool) -> bool {
 fn begins_with_pages(alloc: Global, is_rising: bool) -> Result<bool, Fail> {
     let mappings = pages(alloc, is_rising)?;
     let shared = mappings.clone()?;
-    let other = shared.with_mapping(alloc, mapping(0x10_0000, 0x20_0000))?;
+    let wide = Mapping {
+        end: 0x20_0000,
+        ..page(0x100)
+    };
+    let other = shared.with_mapping(alloc, wide)?;
     let mut generations = Generations::starting_at(10);
     let process: ProcessX86_64 = Process::with_mappings(alloc, &Bare, &mappings, &mut generations)?;
     Ok(
