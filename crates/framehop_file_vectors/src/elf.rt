@@ -5,3 +5,4 @@ mod readme;
 mod segments;
 
 pub(crate) use program::{BUILD_ID, PROGRAM};
+pub(crate) use readme::{addresses, unwinder_of};

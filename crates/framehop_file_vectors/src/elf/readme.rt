@@ -30,10 +30,11 @@ fn module_of_file(alloc: Global, file: &[u8], base: u64) -> Result<Module<Vec<u8
 /// addresses, and what the kernel leaves there for `_start`, which no function called.
 const STACK: [u64; 3] = [0x10400115, 0x10400123, 0];
 
-/// An unwinder that has the program's module.
-fn unwinder(alloc: Global) -> Result<UnwinderX86_64<Vec<u8>>, Fail> {
-    let program = hex::decode(alloc, PROGRAM)?;
-    let module = module_of_file(alloc, program.as_slice(), 0x10000000)?;
+/// An unwinder that has a module.
+pub(crate) fn unwinder_of(
+    alloc: Global,
+    module: Module<Vec<u8>>,
+) -> Result<UnwinderX86_64<Vec<u8>>, Fail> {
     let mut generations = Generations::new();
     let mut unwinder: UnwinderX86_64<Vec<u8>> = UnwinderX86_64::new(alloc, &mut generations)?;
     match unwinder.add_module(module, &mut generations) {
@@ -42,14 +43,16 @@ fn unwinder(alloc: Global) -> Result<UnwinderX86_64<Vec<u8>>, Fail> {
     }
 }
 
-/// The addresses of what five calls of an iterator over the stack give; 0 where there is no frame.
-fn addresses(
+/// The addresses of what five calls of an iterator over a stack give, from an instruction on; 0 where there is no frame.
+pub(crate) fn addresses(
     unwinder: &UnwinderX86_64<Vec<u8>>,
     cache: &mut CacheX86_64,
+    ip: u64,
+    stack: &[u64],
 ) -> Result<[u64; 5], Error> {
-    let mut read_stack = |address: u64| STACK.get((address / 8) as usize).copied().ok_or(());
-    // no frame pointer: the rows of `.eh_frame` lead on
-    let regs = UnwindRegsX86_64::new(0x1040010c, 0, 1);
+    let mut read_stack = |address: u64| stack.get((address / 8) as usize).copied().ok_or(());
+    // no frame pointer: the unwind data leads on
+    let regs = UnwindRegsX86_64::new(ip, 0, 1);
     let mut walk = unwinder.iter_frames(regs.ip(), regs, cache, &mut read_stack);
     let mut addresses = [0; 5];
     for address in &mut addresses {
@@ -60,12 +63,21 @@ fn addresses(
     Ok(addresses)
 }
 
+/// An unwinder that has the program's module.
+fn unwinder(alloc: Global) -> Result<UnwinderX86_64<Vec<u8>>, Fail> {
+    let program = hex::decode(alloc, PROGRAM)?;
+    unwinder_of(
+        alloc,
+        module_of_file(alloc, program.as_slice(), 0x10000000)?,
+    )
+}
+
 /// Whether the frames of the stack are found, and then its root.
 fn finds_the_frames(alloc: Global) -> Result<bool, Fail> {
     let unwinder = unwinder(alloc)?;
     let mut cache = CacheX86_64::new(alloc)?;
     let frames = [0x1040010c, 0x10400114, 0x10400122, 0, 0];
-    Ok(addresses(&unwinder, &mut cache) == Ok(frames))
+    Ok(addresses(&unwinder, &mut cache, 0x1040010c, &STACK) == Ok(frames))
 }
 
 #[test]

@@ -1,9 +1,10 @@
 //! The README's example of a minidump, as it is printed there, and a test of it: from the minidump of
 //! `x86_64` to the frames that LLDB prints by `thread backtrace all`.
+use crate::elf::unwinder_of;
 use crate::minidump::x86_64::dump;
 use crate::pieces::holds;
 use framehop::x86_64::{CacheX86_64, UnwindRegsX86_64, UnwinderX86_64};
-use framehop::{ExplicitModuleSectionInfo, Generations, Module, Unwinder};
+use framehop::{ExplicitModuleSectionInfo, Module, Unwinder};
 use framehop_memory::memory::ProcessMemory;
 use framehop_minidump::exception::{context_of, read_exception};
 use framehop_minidump::location::read_located;
@@ -69,17 +70,6 @@ fn program(alloc: Global) -> Result<Module<Vec<u8>>, Fail> {
     Ok(Module::new(alloc, name, 0x400000..0x403000, 0, sections)?)
 }
 
-/// An unwinder that has the program's module.
-fn unwinder(alloc: Global) -> Result<UnwinderX86_64<Vec<u8>>, Fail> {
-    let mut generations = Generations::new();
-    let mut unwinder: UnwinderX86_64<Vec<u8>> = UnwinderX86_64::new(alloc, &mut generations)?;
-    let module = program(alloc)?;
-    match unwinder.add_module(module, &mut generations) {
-        Ok(()) => Ok(unwinder),
-        Err(refused) => Err(refused.cause)?,
-    }
-}
-
 /// The frames by the thread: the one that waits, and the one that crashed.
 const FRAMES: [(usize, &[u64]); 2] = [
     (0, &[0x401088, 0x4010be]),
@@ -123,7 +113,7 @@ fn are_frames_of_threads(
 /// Whether the minidump's frames are found by an unwinder that has the program.
 fn finds_the_frames(alloc: Global, file: &[u8]) -> Result<bool, Fail> {
     let memory = memory(alloc, file)?;
-    let unwinder = unwinder(alloc)?;
+    let unwinder = unwinder_of(alloc, program(alloc)?)?;
     let mut cache = CacheX86_64::new(alloc)?;
     are_frames_of_threads(alloc, &memory, &unwinder, &mut cache)
 }

@@ -1,8 +1,9 @@
 //! What an unwinder needs of the program, and a walk by it.
+use crate::elf::{addresses, unwinder_of};
 use crate::pe_file::program::{PROGRAM, changed};
 use crate::pieces::holds;
-use framehop::x86_64::{CacheX86_64, UnwindRegsX86_64, UnwinderX86_64};
-use framehop::{Error, Generations, Module, Unwinder};
+use framehop::Module;
+use framehop::x86_64::CacheX86_64;
 use framehop_bytes::section::ModuleSectionInfo;
 use framehop_pe_file::header::read_file_header;
 use framehop_pe_file::section_header::read_section_headers;
@@ -121,7 +122,7 @@ const STACK: [u64; 13] = [
 ];
 
 /// The walk's addresses, each within the instruction that called; then it is at its end.
-const ADDRESSES: [u64; 4] = [0x7ff600001000, 0x7ff60000100c, 0x7ff600001022, 0];
+const ADDRESSES: [u64; 5] = [0x7ff600001000, 0x7ff60000100c, 0x7ff600001022, 0, 0];
 
 /// A module of a PE file, of which it has copies, and which is loaded at an address (AVMA).
 fn module_of_file(alloc: Global, file: &[u8], base: u64) -> Result<Module<Vec<u8>>, Fail> {
@@ -133,39 +134,11 @@ fn module_of_file(alloc: Global, file: &[u8], base: u64) -> Result<Module<Vec<u8
     Ok(Module::new(alloc, name, base..end, base, sections)?)
 }
 
-/// An unwinder that has the program's module.
-fn unwinder(alloc: Global, file: &[u8]) -> Result<UnwinderX86_64<Vec<u8>>, Fail> {
-    let module = module_of_file(alloc, file, 0x7ff600000000)?;
-    let mut generations = Generations::new();
-    let mut unwinder: UnwinderX86_64<Vec<u8>> = UnwinderX86_64::new(alloc, &mut generations)?;
-    match unwinder.add_module(module, &mut generations) {
-        Ok(()) => Ok(unwinder),
-        Err(refused) => Err(refused.cause)?,
-    }
-}
-
-/// The addresses of what four calls of an iterator over the stack give; 0 where there is no frame.
-fn addresses(
-    unwinder: &UnwinderX86_64<Vec<u8>>,
-    cache: &mut CacheX86_64,
-) -> Result<[u64; 4], Error> {
-    let mut read_stack = |address: u64| STACK.get((address / 8) as usize).copied().ok_or(());
-    let regs = UnwindRegsX86_64::new(0x7ff600001000, 0, 1);
-    let mut walk = unwinder.iter_frames(regs.ip(), regs, cache, &mut read_stack);
-    let mut addresses = [0; 4];
-    for address in &mut addresses {
-        if let Some(frame) = walk.next()? {
-            *address = frame.address_for_lookup();
-        }
-    }
-    Ok(addresses)
-}
-
 /// Whether the frames of the stack are found.
 fn finds_the_frames(alloc: Global, file: &[u8]) -> Result<bool, Fail> {
-    let unwinder = unwinder(alloc, file)?;
+    let unwinder = unwinder_of(alloc, module_of_file(alloc, file, 0x7ff600000000)?)?;
     let mut cache = CacheX86_64::new(alloc)?;
-    Ok(addresses(&unwinder, &mut cache) == Ok(ADDRESSES))
+    Ok(addresses(&unwinder, &mut cache, 0x7ff600001000, &STACK) == Ok(ADDRESSES))
 }
 
 #[test]
