@@ -278,7 +278,7 @@ fn has_first_page(memory: &ProcessMemory<'_>) -> bool {
     match memory.bytes_at(0x400000, 0x1000) {
         Some(page) => {
             page.len() == 0x1000
-                && front(page, 4) == b"\x7fELF".as_slice()
+                && memory.bytes_at(0x400000, 4) == Some(b"\x7fELF".as_slice())
                 && memory.bytes_at(0x400000, 0x1001).is_none()
         }
         None => false,
