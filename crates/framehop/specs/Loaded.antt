@@ -9,8 +9,9 @@ abbrev pub with_modules : List ModuleView → List ModuleView → List ModuleVie
 with_modules [] modules = modules
 with_modules (m ∷ added) modules = with_modules added (with_module m modules)
 
--- What a call that makes an unwinder of modules has returned, over the counter of generations before and after it: an unwinder
--- of the generation that it has drawn, or nothing is drawn; at the counter's end, and only there, it is refused for that.
+-- What a call that makes an unwinder of modules has returned, over the counter of generations before and after it: an
+-- unwinder of the generation that it has drawn, or nothing is drawn; at the counter's end, and only there, it is refused
+-- for that.
 abbrev pub IsMadeWith : List ModuleView → Result UnwinderView ModuleListError → ℕ → ℕ → Type 0
 IsMadeWith added (Ok unwinder) old new =
     (unwinder ≡ record { modules = with_modules added []; generation = old }) × (new ≡ old + 1) × (old < 2 ^ 64 - 1)

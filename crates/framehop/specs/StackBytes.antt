@@ -3,7 +3,8 @@ use Rattle.std.specs.Prelude.{ℕ, ◌+◌, ◌-◌, List, length, Some, None, �
 use Rattle.framehop_core.specs.Memory.{Memory}
 use Rattle.framehop_bytes.specs.Bytes.{le8}
 
--- the little-endian word of eight bytes at each address, aligned or not, where the bytes from the base on hold all eight
+-- the little-endian word of eight bytes at each address, aligned or not, where all eight are among the bytes, of which the
+-- first is at the base
 abbrev pub memory_of_bytes : ℕ → List ℕ → Memory
 memory_of_bytes base bytes address =
     if nat_le base address && nat_le (address - base + 8) (length bytes)
