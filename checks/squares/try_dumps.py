@@ -1,7 +1,7 @@
 #!/usr/bin/env python3
 """try_dumps.py PROGRAM [KIND..]: runs framehop-stacks on dumps of 4,000, 8,000 and 16,000 items of each kind of dumps.py.
 
-Prints the size of each dump, the time and the greatest memory. The status is 1 where twice as many items take more than three times
+Prints the size of each dump, the time and the greatest memory. Where there are mapped files, it runs --json, which reads all of them. The status is 1 where twice as many items take more than three times
 as long (and above a second), where a run takes more than 60 seconds or memory of more than 64 times the files and 64 MB, or ends by a
 signal.
 """
@@ -50,7 +50,8 @@ def main():
             with tempfile.TemporaryDirectory() as folder:
                 total = make(kind, size, folder)
                 root = os.path.join(folder, "root")
-                command = [program, os.path.join(folder, "dump")] + (["--root", root] if os.path.isdir(root) else ["--root", folder])
+                options = ["--json", "--root", root] if os.path.isdir(root) else ["--root", folder]
+                command = [program, os.path.join(folder, "dump"), *options]
                 status, seconds, megabytes = run(command)
             print(f"{kind:20} {size:6} {total / 1e6:7.2f} {status:6} {seconds:8.2f} {megabytes:9.0f}", flush=True)
             if status < 0 or megabytes > 64 * total / 1e6 + 64 or (before is not None and seconds > max(1, 3 * before)):

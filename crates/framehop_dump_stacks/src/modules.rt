@@ -1,13 +1,13 @@
 //! The files whose code a process had mapped, and the modules of their mappings.
-ghost use Rattle.std.specs.Prelude.{◌≡◌, None, IfOk, IfErr, slice_get};
+ghost use Rattle.std.specs.Prelude.{◌≡◌, true, false, None, Ok, IfOk, IfErr, OnOk, slice_get};
 ghost use Rattle.framehop_processes.specs.Process.{HasModules};
-ghost use Rattle.framehop_symbols.specs.Files.{placed_at};
+ghost use Rattle.framehop_symbols.specs.Files.{placed_at, is_left_out};
 ghost use Rattle.framehop_symbols.specs.MappedBytes.{mapped_sections_view};
 ghost use Rattle.framehop_dump_stacks.specs.Dump.{mapped_code_view, dump_view, head_of};
 ghost use Rattle.framehop_dump_stacks.specs.Image.{sections_in, sections_of};
 ghost use Rattle.framehop_dump_stacks.specs.FrameHeaders.{HasHeadersOf};
 ghost use Rattle.framehop_dump_stacks.specs.Ended.{drawn_in, MayEnd};
-ghost use Rattle.framehop_dump_stacks.specs.Modules.{AreFilesOf, base_in, mapping_based, mapping_in, mappings_in, module_with, sections_by, module_at};
+ghost use Rattle.framehop_dump_stacks.specs.Modules.{AreFilesOf, AreLeftOutOf, AreReadOf, base_in, mapping_based, mapping_in, mappings_in, module_with, sections_by, module_at};
 
 use crate::dump::{Dump, MappedCode};
 use crate::error::DumpStacksError;
@@ -35,6 +35,47 @@ pub fn read_files<'m, S: FileSource>(
         files.add(alloc, source, code.path, code.build_id)?;
     }
     Ok(files)
+}
+
+/// Returns the files whose code is mapped, each once, of which nothing is read before [`read_files_asked_for`].
+pub fn leave_out_files<'m>(alloc: Global, dump: &Dump<'_>) -> Result<Files<'m>, AllocError>
+    ensures { IfOk result (λ files. AreLeftOutOf (dump_view dump.now) files) }
+{
+    let mut files = Files::new(alloc)?;
+    for code in &dump.code {
+        files.leave_out(alloc, code.path)?;
+    }
+    Ok(files)
+}
+
+/// Reads the files whose code is mapped that were left out and of which something was asked for, each once; or all that were
+/// left out. Returns whether any was read.
+pub fn read_files_asked_for<S: FileSource>(
+    alloc: Global,
+    dump: &Dump<'_>,
+    source: &S,
+    all: bool,
+    files: &mut Files<'_>,
+) -> Result<bool, AllocError>
+    ensures read { OnOk result (AreReadOf (S.source source.now) all (dump_view dump.now) files.old files.new) }
+    ensures none { result ≡ Ok false → files.new ≡ files.old }
+{
+    let mut is_any_read = false;
+    for code in &dump.code {
+        if is_to_be_read(files, code.path, all) {
+            files.read_left_out(alloc, source, code.path, code.build_id)?;
+            is_any_read = true;
+        }
+    }
+    Ok(is_any_read)
+}
+
+/// Returns whether the file of a path is to be read: it was left out, and something of it was asked for or all are to be.
+fn is_to_be_read(files: &Files<'_>, path: &[u8], all: bool) -> bool
+    ensures left_out { result ≡ true → is_left_out files.now path.now ≡ true }
+    ensures all { result ≡ false → all ≡ true → is_left_out files.now path.now ≡ false }
+{
+    files.is_asked_for(path) || (all && files.is_left_out(path))
 }
 
 /// Makes the modules of mappings, by the files of a dump and by its memory, which lends its bytes for `'m`.

@@ -62,35 +62,8 @@ pub fn write_core_stacks<S: FileSource, W: Write, E: Write>(
     ensures read { (dump : DumpView) → core_dump_of file.now ≡ Ok dump → IfErr result (MayEndWith (S.source source.now) dump) }
 {
     let dump = read_core_dump(alloc, file)?;
-    write_dump_stacks(alloc, &dump, source, limit, explain, out, err)?;
-    Ok(())
-}
-
-/// Writes the stacks of the threads of a core file that was read to `out`, and then to `err` what was missing, as
-/// [`write_core_stacks`] does.
-///
-/// # Errors
-///
-/// `OutOfMemory`, `GenerationsExhausted` and `CannotWrite`.
-pub fn write_dump_stacks<S: FileSource, W: Write, E: Write>(
-    alloc: Global,
-    dump: &Dump<'_>,
-    source: &S,
-    limit: u32,
-    explain: bool,
-    out: &mut W,
-    err: &mut E,
-) -> Result<(), DumpStacksError>
-    ensures printed { OnOk result ((files : Files) × AreFilesOf (S.source source.now) (dump_view dump.now) files
-        × ((shown : List ℕ) × IsShown explain (AreNotesOf limit (dump_view dump.now) files)
-        (text_of limit (dump_view dump.now) files) shown
-        × Appends (W.contents out.old) (W.contents out.new) shown)
-        × ((said : List ℕ) × IsSaid (dump_view dump.now) files (mappings_in (dump_view dump.now) files) said
-        × Appends (E.contents err.old) (E.contents err.new) said)) }
-    ensures read { IfErr result (MayEndWith (S.source source.now) (dump_view dump.now)) }
-{
-    let files = read_files(alloc, dump, source)?;
-    write_dump(alloc, dump, &files, limit, explain, out, err)?;
+    let files = read_files(alloc, &dump, source)?;
+    write_dump_stacks(alloc, &dump, &files, limit, explain, out, err)?;
     Ok(())
 }
 
@@ -150,12 +123,17 @@ fn write_minidump<'a, S: FileSource, W: Write, E: Write>(
 {
     let files = read_module_files(alloc, modules, source)?;
     let whole = with_code(alloc, dump, &files, modules)?;
-    write_dump(alloc, &whole, &files, limit, explain, out, err)?;
+    write_dump_stacks(alloc, &whole, &files, limit, explain, out, err)?;
     Ok(())
 }
 
-/// Writes the stacks of all threads, by the unwinder of their machine.
-fn write_dump<'m, W: Write, E: Write>(
+/// Writes the stacks of the threads of a dump to `out`, and then to `err` what was missing, as [`write_core_stacks`] does, by
+/// files of which some may be left out: it takes such a file for one of which nothing was read.
+///
+/// # Errors
+///
+/// `OutOfMemory`, `GenerationsExhausted` and `CannotWrite`.
+pub fn write_dump_stacks<'m, W: Write, E: Write>(
     alloc: Global,
     dump: &Dump<'m>,
     files: &Files<'m>,

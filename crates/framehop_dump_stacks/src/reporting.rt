@@ -56,34 +56,8 @@ pub fn report_core_stacks<S: FileSource, R: Report, W: Write, E: Write>(
         (error ≡ of_core_file refusal) ⊎ (error ≡ DumpStacksError.OutOfMemory)) }
 {
     let dump = read_core_dump(alloc, file)?;
-    report_dump_stacks(alloc, &dump, source, limit, report, out, err)?;
-    Ok(())
-}
-
-/// Writes a report of the stacks of a core file that was read to `out`, and then to `err` what was missing, as
-/// [`report_core_stacks`] does.
-///
-/// # Errors
-///
-/// `OutOfMemory`, `GenerationsExhausted` and `CannotWrite`.
-pub fn report_dump_stacks<S: FileSource, R: Report, W: Write, E: Write>(
-    alloc: Global,
-    dump: &Dump<'_>,
-    source: &S,
-    limit: u32,
-    report: &R,
-    out: &mut W,
-    err: &mut E,
-) -> Result<(), DumpStacksError>
-    ensures printed { OnOk result ((files : Files) × AreFilesOf (S.source source.now) (dump_view dump.now) files
-        × ((text : List ℕ) × R.makes report.now (dump_view dump.now) files (mappings_in (dump_view dump.now) files)
-        (stacks_in limit (dump_view dump.now) files) text
-        × Appends (W.contents out.old) (W.contents out.new) text)
-        × ((said : List ℕ) × IsSaid (dump_view dump.now) files (mappings_in (dump_view dump.now) files) said
-        × Appends (E.contents err.old) (E.contents err.new) said)) }
-{
-    let files = read_files(alloc, dump, source)?;
-    report_dump(alloc, dump, &files, limit, report, out, err)?;
+    let files = read_files(alloc, &dump, source)?;
+    report_dump_stacks(alloc, &dump, &files, limit, report, out, err)?;
     Ok(())
 }
 
@@ -140,12 +114,17 @@ fn report_minidump<'a, S: FileSource, R: Report, W: Write, E: Write>(
 {
     let files = read_module_files(alloc, modules, source)?;
     let whole = with_code(alloc, dump, &files, modules)?;
-    report_dump(alloc, &whole, &files, limit, report, out, err)?;
+    report_dump_stacks(alloc, &whole, &files, limit, report, out, err)?;
     Ok(())
 }
 
-/// Writes a report of all threads, by the unwinder of their machine.
-fn report_dump<'m, R: Report, W: Write, E: Write>(
+/// Writes a report of the stacks of a dump to `out`, and then to `err` what was missing, as [`report_core_stacks`] does, by
+/// files of which some may be left out: it takes such a file for one of which nothing was read.
+///
+/// # Errors
+///
+/// `OutOfMemory`, `GenerationsExhausted` and `CannotWrite`.
+pub fn report_dump_stacks<'m, R: Report, W: Write, E: Write>(
     alloc: Global,
     dump: &Dump<'m>,
     files: &Files<'m>,

@@ -1,4 +1,6 @@
 //! Core files of which only parts are read: the headers and the notes, and of memory what is asked for.
+use crate::input::{read_at, read_front};
+use crate::object_parts::write_u64;
 use framehop_coredump::core_file::{Machine, read_core_file};
 use framehop_coredump::registers::{aarch64_registers, code_ptr_auth_mask, x86_64_registers};
 use framehop_dump_stacks::dump::{Dump, Registers};
@@ -9,7 +11,6 @@ use framehop_memory::left_out::ReadPart;
 use framehop_memory::memory::MemoryRange;
 use std::alloc::{AllocError, Global};
 use std::fs::File;
-use std::io::{Read, Seek, SeekFrom};
 use std::{fs, io};
 
 /// The most bytes of headers and notes that are read apart from memory: 64 MiB.
@@ -20,6 +21,9 @@ const ELF_HEADER_SIZE: u64 = 64;
 
 /// The size of a program header, in bytes.
 const PROGRAM_HEADER_SIZE: u64 = 56;
+
+/// The offset of `p_offset` in a program header, in bytes.
+const P_OFFSET: u64 = 8;
 
 /// `PT_NOTE`.
 const PT_NOTE: u32 = 4;
@@ -36,7 +40,7 @@ pub struct CoreParts {
     file: File,
     /// The size of the file, in bytes.
     size: u64,
-    /// The front of the file, with its headers and its notes.
+    /// The headers of the file, and then its notes.
     front: Vec<u8>,
     /// The memory that the file has, in the order of addresses, and apart.
     segments: Vec<WantedSegment>,
@@ -61,8 +65,8 @@ pub struct ReadMemory {
 }
 
 impl CoreParts {
-    /// Opens a core file, and reads its front. `None` of what is no core file, of one whose memory overlaps or does not lie
-    /// in the file, and of one whose notes are far from its beginning: such a file is read whole.
+    /// Opens a core file, and reads its headers and its notes. `None` of what is no core file, of one whose memory overlaps or
+    /// does not lie in the file, and of one that has too many bytes of headers and notes: such a file is read whole.
     pub fn open(rt: &HostRuntime, path: &str) -> io::Result<Option<CoreParts>> {
         let metadata = fs::metadata(rt, path)?;
         if !metadata.is_file() || metadata.len() < ELF_HEADER_SIZE {
@@ -75,15 +79,15 @@ impl CoreParts {
         let Some(size) = headers_size(header.as_slice(), most) else {
             return Ok(None);
         };
-        let headers = read_at(alloc, &mut file, 0, size)?;
-        let Ok(core) = read_core_file(alloc, headers.as_slice()) else {
-            return Ok(None);
+        let mut front = read_at(alloc, &mut file, 0, size)?;
+        let headers = match read_core_file(alloc, front.as_slice()) {
+            Ok(core) => core.segments,
+            Err(_) => return Ok(None),
         };
-        let Some(size) = front_size(core.segments.as_slice(), size, most) else {
+        if !add_notes(alloc, &mut file, headers.as_slice(), most, &mut front)? {
             return Ok(None);
-        };
-        let front = read_at(alloc, &mut file, 0, size)?;
-        let segments = segments_of(alloc, core.segments.as_slice(), metadata.len())?;
+        }
+        let segments = segments_of(alloc, headers.as_slice(), metadata.len())?;
         Ok(segments.map(|segments| CoreParts {
             file,
             size: metadata.len(),
@@ -92,7 +96,7 @@ impl CoreParts {
         }))
     }
 
-    /// Returns the front of the file, with its headers and its notes.
+    /// Returns the headers of the file, and then its notes, as a file of their own.
     pub fn front(&self) -> &[u8] {
         self.front.as_slice()
     }
@@ -210,16 +214,35 @@ fn headers_size(header: &[u8], most: u64) -> Option<u64> {
     }
 }
 
-/// Returns where the notes of a core file end, or its program headers, if these are in its first bytes, of which there are at
-/// most so many.
-fn front_size(headers: &[ProgramHeader], size: u64, most: u64) -> Option<u64> {
-    let mut front = size;
+/// Reads the notes of a core file, adds them to its headers, and writes there where they are. Returns whether the file has
+/// them, and there are at most so many bytes together.
+fn add_notes(
+    alloc: Global,
+    file: &mut File,
+    headers: &[ProgramHeader],
+    most: u64,
+    front: &mut Vec<u8>,
+) -> io::Result<bool> {
+    let Ok(header) = read_file_header(front.as_slice()) else {
+        return Ok(false);
+    };
+    let mut place = header.e_phoff.saturating_add(P_OFFSET);
     for header in headers {
         if header.p_type == PT_NOTE {
-            front = front.max(header.p_offset.checked_add(header.p_filesz)?);
+            let start = front.len() as u64;
+            let end = header.p_offset.checked_add(header.p_filesz);
+            if end.is_none() || start.saturating_add(header.p_filesz) > most {
+                return Ok(false);
+            }
+            let Ok(notes) = read_at(alloc, file, header.p_offset, header.p_filesz) else {
+                return Ok(false);
+            };
+            write_u64(front.as_mut_slice(), place, start);
+            front.extend_from_slice(notes.as_slice())?;
         }
+        place = place.saturating_add(PROGRAM_HEADER_SIZE);
     }
-    if front <= most { Some(front) } else { None }
+    Ok(true)
 }
 
 /// Returns the segments of memory that a file of a size has, of which nothing is wanted, in the order of their addresses; `None`
@@ -266,28 +289,4 @@ fn are_apart(segments: &[WantedSegment]) -> bool {
         end = next;
     }
     true
-}
-
-/// Reads so many bytes of a file from an offset on.
-fn read_at(alloc: Global, file: &mut File, offset: u64, size: u64) -> io::Result<Vec<u8>> {
-    let mut bytes = Vec::from_elem(alloc, 0u8, size as usize)?;
-    file.seek(SeekFrom::Start(offset))?;
-    file.read_exact(bytes.as_mut_slice())?;
-    Ok(bytes)
-}
-
-/// Reads so many bytes of a file from an offset on to the front of a slice, and returns the rest of it.
-fn read_front<'a>(
-    file: &mut File,
-    offset: u64,
-    size: u64,
-    slice: &'a mut [u8],
-) -> io::Result<&'a mut [u8]> {
-    let size = (size as usize).min(slice.len());
-    let (front, rest) = slice.split_at_mut(size);
-    if size > 0 {
-        file.seek(SeekFrom::Start(offset))?;
-        file.read_exact(front)?;
-    }
-    Ok(rest)
 }

@@ -6,19 +6,24 @@ use crate::messages::Messages;
 use crate::{Form, misuse_of, say_misuse, status_of};
 use framehop_cli::Result;
 use framehop_dump_json::json::Json;
-use framehop_dump_stacks::core_dump::read_core_dump_over;
+use framehop_dump_stacks::core_dump::{read_core_dump, read_core_dump_over};
 use framehop_dump_stacks::dump::Dump;
 use framehop_dump_stacks::error::DumpStacksError;
-use framehop_dump_stacks::program::{write_core_stacks, write_dump_stacks};
-use framehop_dump_stacks::reporting::{report_core_stacks, report_dump_stacks};
+use framehop_dump_stacks::modules::{leave_out_files, read_files, read_files_asked_for};
+use framehop_dump_stacks::program::write_dump_stacks;
+use framehop_dump_stacks::reporting::report_dump_stacks;
 use framehop_memory::left_out::LeftOut;
 use framehop_memory::memory::ProcessMemory;
 use framehop_perf_stacks::run::Options;
+use framehop_symbols::files::Files;
 use std::io;
 use std::io::Write;
 
 /// How often more of a core file is read before it is read whole.
 const MOST_ROUNDS: u32 = 16;
+
+/// How often those of the mapped files are read that were asked for, before all are.
+const ROUNDS_OF_FILES: u32 = 8;
 
 /// What came of a round over the parts that were read of a core file.
 #[derive(Drop)]
@@ -39,9 +44,10 @@ struct Written {
     ended: std::result::Result<(), DumpStacksError>,
 }
 
-/// Prints the stacks of the threads of a core file, of which its front is read and the memory that is asked for. Where memory
-/// is asked for that was not read, nothing is printed, and all is done again with it. Returns the status, or `None` where
-/// nothing is printed: of what is no core file, and of one that is to be read whole.
+/// Prints the stacks of the threads of a core file, of which its front is read and the memory that is asked for, and of the
+/// files that were mapped those that are asked for. Where more is asked for than was read, nothing is printed, and all is done
+/// again with it. Returns the status, or `None` where nothing is printed: of what is no core file, and of one that is to be
+/// read whole.
 pub fn print_core_parts(
     rt: &HostRuntime,
     path: &str,
@@ -92,7 +98,7 @@ fn print_read_core(
     if !asked.is_empty() {
         return Ok(Round::Asked(asked));
     }
-    let written = written_stacks(rt, &dump, disk, options, form);
+    let written = write_stacks(rt, &dump, &left_out, disk, options, form)?;
     let asked = left_out.asked(alloc)?;
     if !asked.is_empty() {
         return Ok(Round::Asked(asked));
@@ -100,25 +106,8 @@ fn print_read_core(
     Ok(Round::Printed(print_written(rt, path, &written)?))
 }
 
-/// Returns what is written of the stacks of a core file that was read.
-fn written_stacks(
-    rt: &HostRuntime,
-    dump: &Dump<'_>,
-    disk: &Disk<'_>,
-    options: Options<'_>,
-    form: Form<'_>,
-) -> Written {
-    let alloc = rt.alloc();
-    let Options { limit, explain, .. } = options;
-    let (mut out, mut said) = (Vec::new(alloc), Vec::new(alloc));
-    let ended = match form {
-        Form::Json => report_dump_stacks(alloc, dump, disk, limit, &Json, &mut out, &mut said),
-        _ => write_dump_stacks(alloc, dump, disk, limit, explain, &mut out, &mut said),
-    };
-    in_memory(out, said, ended)
-}
-
-/// Prints the stacks of the threads of a core file, by its bytes.
+/// Prints the stacks of the threads of a core file, by its bytes. Of the files that were mapped those are read that are asked
+/// for.
 pub fn print_core(
     rt: &HostRuntime,
     path: &str,
@@ -128,21 +117,59 @@ pub fn print_core(
     form: Form<'_>,
 ) -> Result<u8> {
     let alloc = rt.alloc();
+    let dump = match read_core_dump(alloc, bytes) {
+        Ok(dump) => dump,
+        Err(error) => return status_of(rt, path, Err(error.into())),
+    };
+    let left_out = LeftOut::new(alloc, &[])?;
+    let written = write_stacks(rt, &dump, &left_out, disk, options, form)?;
+    print_written(rt, path, &written)
+}
+
+/// Returns what is written of the stacks of a core file that was read. Of the files that were mapped those are read that are
+/// asked for, and all is made again with them, unless memory is asked for that was left out. JSON tells of all files.
+fn write_stacks(
+    rt: &HostRuntime,
+    dump: &Dump<'_>,
+    left_out: &LeftOut,
+    disk: &Disk<'_>,
+    options: Options<'_>,
+    form: Form<'_>,
+) -> Result<Written> {
+    let alloc = rt.alloc();
+    if matches!(form, Form::Json) {
+        let files = read_files(alloc, dump, disk)?;
+        return Ok(write_stacks_by(rt, dump, &files, options, form));
+    }
+    let mut files = leave_out_files(alloc, dump)?;
+    for round in 0..=ROUNDS_OF_FILES {
+        let written = write_stacks_by(rt, dump, &files, options, form);
+        let all = round == ROUNDS_OF_FILES;
+        if !left_out.asked(alloc)?.is_empty()
+            || !read_files_asked_for(alloc, dump, disk, all, &mut files)?
+        {
+            return Ok(written);
+        }
+    }
+    Ok(write_stacks_by(rt, dump, &files, options, form))
+}
+
+/// Returns what is written of the stacks of a core file that was read, by these files, into memory, where a write fails only
+/// where memory runs out.
+fn write_stacks_by<'m>(
+    rt: &HostRuntime,
+    dump: &Dump<'m>,
+    files: &Files<'m>,
+    options: Options<'_>,
+    form: Form<'_>,
+) -> Written {
+    let alloc = rt.alloc();
     let Options { limit, explain, .. } = options;
     let (mut out, mut said) = (Vec::new(alloc), Vec::new(alloc));
     let ended = match form {
-        Form::Json => { report_core_stacks(alloc, bytes, disk, limit, &Json, &mut out, &mut said) }
-        _ => write_core_stacks(alloc, bytes, disk, limit, explain, &mut out, &mut said),
+        Form::Json => report_dump_stacks(alloc, dump, files, limit, &Json, &mut out, &mut said),
+        _ => write_dump_stacks(alloc, dump, files, limit, explain, &mut out, &mut said),
     };
-    print_written(rt, path, &in_memory(out, said, ended))
-}
-
-/// Returns what is written of a core file into memory, where a write fails only where memory runs out.
-fn in_memory(
-    out: Vec<u8>,
-    said: Vec<u8>,
-    ended: std::result::Result<(), DumpStacksError>,
-) -> Written {
     let ended = match ended {
         Err(DumpStacksError::CannotWrite) => Err(DumpStacksError::OutOfMemory),
         ended => ended,

@@ -2,6 +2,7 @@
 use crate::input::read_sized;
 use crate::known_names::KnownNames;
 use crate::messages::Messages;
+use crate::object_parts::read_object;
 use framehop_cli::Result;
 use framehop_perf_stacks::perf_map::MapSource;
 use framehop_symbols::files::{FileSource, is_vdso, is_windows_path};
@@ -255,13 +256,13 @@ fn is_wanted(alloc: Global, file: &[u8], build_id: &[u8]) -> Result<bool, AllocE
     Ok(build_id.is_empty() || found == build_id || (found.is_empty() && is_made_up(build_id, file)))
 }
 
-/// Reads a regular file of at most 4 GiB: a recording may name a device or a pipe, whose bytes don't end. A file whose size
+/// Reads a regular file of at most 4 GiB, as [`read_object`] does: a recording may name a device or a pipe, whose bytes don't end. A file whose size
 /// is told as 0, as those that a kernel makes up when they are read, is not read.
 fn read_regular(rt: &HostRuntime, path: &str) -> Result<Option<Vec<u8>>, AllocError> {
     match known(fs::metadata(rt, path))? {
         Some(metadata)
             if metadata.is_file() && metadata.len() != 0 && metadata.len() <= LARGEST_FILE => {
-            known(read_sized(rt, path, metadata.len()))
+            known(read_object(rt, path, metadata.len()))
         }
         _ => Ok(None),
     }

@@ -2,8 +2,9 @@
 use crate::messages::Messages;
 use framehop_cli::Result;
 use framehop_folded::text::is_text;
+use std::alloc::Global;
 use std::fs::File;
-use std::io::{ErrorKind, Read, Write};
+use std::io::{ErrorKind, Read, Seek, SeekFrom, Write};
 use std::{fs, io};
 
 /// The size from which on a recording is told of before it is read, in bytes: 50 MB.
@@ -90,6 +91,30 @@ pub fn read_sized(rt: &HostRuntime, path: &str, size: u64) -> io::Result<Vec<u8>
         file.read_exact(&mut bytes.as_mut_slice()[start..])?;
     }
     Ok(bytes)
+}
+
+/// Reads so many bytes of a file from an offset on.
+pub fn read_at(alloc: Global, file: &mut File, offset: u64, size: u64) -> io::Result<Vec<u8>> {
+    let mut bytes = Vec::from_elem(alloc, 0u8, size as usize)?;
+    file.seek(SeekFrom::Start(offset))?;
+    file.read_exact(bytes.as_mut_slice())?;
+    Ok(bytes)
+}
+
+/// Reads so many bytes of a file from an offset on to the front of a slice, and returns the rest of it.
+pub fn read_front<'a>(
+    file: &mut File,
+    offset: u64,
+    size: u64,
+    slice: &'a mut [u8],
+) -> io::Result<&'a mut [u8]> {
+    let size = (size as usize).min(slice.len());
+    let (front, rest) = slice.split_at_mut(size);
+    if size > 0 {
+        file.seek(SeekFrom::Start(offset))?;
+        file.read_exact(front)?;
+    }
+    Ok(rest)
 }
 
 /// Reads standard input to its end.

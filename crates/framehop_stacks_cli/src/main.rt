@@ -10,6 +10,7 @@ mod events;
 mod input;
 mod known_names;
 mod messages;
+mod object_parts;
 mod printed;
 mod recording_parts;
 mod recordings;

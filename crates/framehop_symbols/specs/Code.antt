@@ -1,5 +1,5 @@
 -- The code of the files that processes map.
-use Rattle.std.specs.Prelude.{ℕ, ◌+◌, ◌-◌, ◌^◌, min, max, nat_le, nat_lt, Bool, ◌&&◌, List, [], ◌∷◌, map, drop, length, Option, None, option_map, option_and_then, if◌then◌else◌}
+use Rattle.std.specs.Prelude.{ℕ, ◌+◌, ◌-◌, ◌^◌, min, max, nat_le, nat_lt, Bool, ◌&&◌, List, [], ◌∷◌, drop, length, Option, None, option_map, option_and_then, if◌then◌else◌}
 use Rattle.std.specs.List.{find}
 use Rattle.std.specs.Option.{is_some}
 use Rattle.framehop_processes.specs.declared.mapping.Mapping.{Mapping}

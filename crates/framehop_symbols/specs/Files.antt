@@ -1,5 +1,5 @@
 -- The files that processes map, and the modules of mappings.
-use Rattle.std.specs.Prelude.{◌≡◌, ◌≢◌, ◌⊎◌, ℕ, nat_eq, IsSome, List, [], ◌∷◌, ◌++◌, length, take, drop, ◌-◌, ◌==◌, if◌then◌else◌, codes, Option, Some, None, option_and_then, slice_get, Bool, true, false, not, ◌&&◌, ◌||◌}
+use Rattle.std.specs.Prelude.{◌≡◌, ◌≢◌, ◌⊎◌, ℕ, nat_eq, IsSome, is_some, List, [], ◌∷◌, ◌++◌, length, take, drop, ◌-◌, ◌==◌, if◌then◌else◌, codes, Option, Some, None, option_and_then, slice_get, slice_set, Bool, true, false, not, ◌&&◌, ◌||◌}
 use Rattle.std.specs.BTreeMap.{get, get_by}
 use Rattle.std.specs.Cmp.Lexicographic.{pointwise, slice_cmp}
 use Rattle.std.specs.List.{starts_with}
@@ -26,6 +26,18 @@ map_number_in files pid = get nat_cmp files.maps pid
 -- what was read of the file of a number
 abbrev pub object_in : Files → ℕ → Option ObjectFile
 object_in files number = option_and_then (λ file. file.object) (slice_get files.list.items number)
+
+-- the file of a name
+abbrev pub file_called : Files → List ℕ → Option NamedFile
+file_called files name = option_and_then (slice_get files.list.items) (number_in files name)
+
+-- it was left out: nothing of it was read so far
+abbrev pub is_left_out_file : Option NamedFile → Bool
+is_left_out_file (Some file) = is_some file.left_out
+is_left_out_file None = false
+
+abbrev pub is_left_out : Files → List ℕ → Bool
+is_left_out files name = is_left_out_file (file_called files name)
 
 -- a module at the addresses of a mapping
 abbrev pub placed_at : ModuleView → Mapping → ModuleView
@@ -128,6 +140,30 @@ abbrev pub IsMapAdded : ℕ → List ℕ → CodeMap → Files → Files → Typ
 IsMapAdded pid name code_map old new =
     (IsSome (map_number_in old pid) × (new ≡ old)) ⊎ ((map_number_in old pid ≡ None) × IsNextMap pid name code_map old new)
 
+-- a file is the next of all, under its name
+pub record IsNextFile (file : NamedFile) (old new : Files) : Type 0 where
+  pub list : new.list.items ≡ old.list.items ++ file ∷ []
+  pub number : number_in new file.name.items ≡ Some (length old.list.items)
+  pub others : (other : List ℕ) → other ≢ file.name.items → number_in new other ≡ number_in old other
+  pub maps : new.maps ≡ old.maps
+
+-- nothing was read of a file of a name: it is left out, if a source is asked for it
+pub record IsLeftOut (name : List ℕ) (file : NamedFile) : Type 0 where
+  pub called : file.name.items ≡ name
+  pub left_out : is_some file.left_out ≡ is_read name
+  pub no_object : file.object ≡ None
+  pub no_problem : file.problem ≡ None
+  pub no_map : file.code_map ≡ None
+
+-- such a file is the next of all
+abbrev pub IsNextLeftOut : List ℕ → Files → Files → Type 0
+IsNextLeftOut name old new = (file : NamedFile) × IsLeftOut name file × IsNextFile file old new
+
+-- it is added, unless one has its name
+abbrev pub IsAddedLeftOut : List ℕ → Files → Files → Type 0
+IsAddedLeftOut name old new =
+    (IsSome (number_in old name) × (new ≡ old)) ⊎ ((number_in old name ≡ None) × IsNextLeftOut name old new)
+
 module _ (source : SourceView) where
   -- the symbol tables of the debug file of a file of this path and link, by its build id: none without one
   abbrev pub AreDebugTables : List ℕ → List ℕ → List ℕ → List Listed → Type 0
@@ -186,12 +222,18 @@ module _ (source : SourceView) where
     pub called : file.name.items ≡ name
     pub loaded : IsLoadedIf (is_read name) name wanted file.object file.problem
     pub no_map : file.code_map ≡ None
+    pub not_left_out : file.left_out ≡ None
 
-  -- a file is the next of all, under its name
-  pub record IsNext (name wanted : List ℕ) (old new : Files) : Type 0 where
-    pub file : (file : NamedFile) × (new.list.items ≡ old.list.items ++ file ∷ []) × IsFileOf name wanted file
-    pub number : number_in new name ≡ Some (length old.list.items)
-    pub others : (other : List ℕ) → other ≢ name → number_in new other ≡ number_in old other
+  -- such a file is the next of all
+  abbrev pub IsNext : List ℕ → List ℕ → Files → Files → Type 0
+  IsNext name wanted old new = (file : NamedFile) × IsFileOf name wanted file × IsNextFile file old new
+
+  -- such a file is in the place of the one of its name, and all others are as they were
+  pub record IsRead (name wanted : List ℕ) (old new : Files) : Type 0 where
+    pub number : ℕ
+    pub numbered : number_in old name ≡ Some number
+    pub file : (file : NamedFile) × (new.list.items ≡ slice_set old.list.items number file) × IsFileOf name wanted file
+    pub numbers : new.numbers ≡ old.numbers
     pub maps : new.maps ≡ old.maps
 
   -- a file is added, unless one has its name

@@ -5,7 +5,7 @@ ghost use Rattle.framehop_symbols.specs.ObjectFiles.{segment_view, code_view, co
 ghost use Rattle.framehop_symbols.specs.Code.{extended, extent_of, segment_in, has_svma, code_from, code_in_mapping, code_at, is_mapped};
 
 use crate::files::Files;
-use crate::place::mapping_at;
+use crate::place::{mapping_asked_for, mapping_at};
 use framehop_bytes::bytes::{back, front};
 use framehop_memory::segment::Segment;
 use framehop_processes::Mapping;
@@ -43,7 +43,7 @@ pub fn code_at<'a>(files: &'a Files<'_>, mappings: &[Mapping], address: u64) -> 
     requires { IsInOrder 0 mappings.now }
     ensures { option_map (λ code. code.now) result ≡ code_at files.entry.now mappings.now address }
 {
-    let mapping = mapping_at(mappings, address)?;
+    let mapping = mapping_asked_for(files, mappings, address)?;
     code_in_mapping(files, mapping, address)
 }
 

@@ -5,7 +5,7 @@ ghost use Rattle.framehop_symbols.specs.DebugFrame.{debug_frame_in_mapping, debu
 
 use crate::files::Files;
 use crate::mapped_bytes::MappedBytes;
-use crate::place::mapping_at;
+use crate::place::mapping_asked_for;
 use framehop::Module;
 use framehop_processes::Mapping;
 
@@ -19,7 +19,7 @@ pub fn debug_frame_at<'a, 'm>(
     requires { IsInOrder 0 mappings.now }
     ensures { option_map (λ found. (found.0.now, found.1)) result ≡ debug_frame_at files.entry.now mappings.now address }
 {
-    let mapping = mapping_at(mappings, address)?;
+    let mapping = mapping_asked_for(files, mappings, address)?;
     debug_frame_in_mapping(files, mapping, address)
 }
 

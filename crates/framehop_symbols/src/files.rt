@@ -1,10 +1,10 @@
 //! The files that processes map by their numbers, and the modules of their mappings.
-ghost use Rattle.std.specs.Prelude.{◌≡◌, ◌⊎◌, ℕ, List, [], Option, Some, None, Ok, IsSome, IfOk, IfErr, OnOk, option_map, option_copied, slice_get, MatchOption};
+ghost use Rattle.std.specs.Prelude.{◌≡◌, ◌⊎◌, ◌<◌, ℕ, List, [], length, true, false, is_some, Option, Some, None, Ok, IsSome, IfOk, IfErr, OnOk, option_map, option_copied, slice_get, MatchOption};
 ghost use Rattle.framehop.specs.Modules.{ModuleView};
 ghost use Rattle.framehop_elf.specs.UnwindSections.{bytes_in};
 ghost use Rattle.framehop_elf.specs.declared.error.ElfError.{ElfError};
 ghost use Rattle.framehop_symbols.specs.ObjectFiles.{Listed, problem_of, IsOutOfMemory, IsKeptOf};
-ghost use Rattle.framehop_symbols.specs.Files.{number_in, object_in, module_at, placed_at, is_unix_path, has_drive, is_windows_path, is_path, is_vdso, is_read, is_deleted, path_of, is_asked, told_of, IsGiven, IsNamed, IsRefused, IsCopied, IsNotCopied, IsKept, AreDebugTables, IsFileOf, IsNext, IsNextMap, IsAdded, IsMapAdded, IsWithoutFiles, map_number_in};
+ghost use Rattle.framehop_symbols.specs.Files.{number_in, object_in, module_at, placed_at, is_unix_path, has_drive, is_windows_path, is_path, is_vdso, is_read, is_deleted, path_of, is_asked, told_of, IsGiven, IsNamed, IsRefused, IsCopied, IsNotCopied, IsKept, AreDebugTables, IsFileOf, IsNextFile, IsNext, IsNextMap, IsAdded, IsMapAdded, IsWithoutFiles, IsLeftOut, IsNextLeftOut, IsAddedLeftOut, IsRead, file_called, is_left_out, map_number_in};
 ghost use Rattle.framehop_symbols.specs.Source.{SourceView};
 ghost use Rattle.framehop_symbols.specs.declared.object_file.FileProblem.{FileProblem};
 
@@ -18,6 +18,7 @@ use framehop::section::SectionBytes;
 use framehop::x86_64::UnwinderX86_64;
 use framehop_processes::{Mapping, ModuleMaker, ProcessUnwinder};
 use std::alloc::{AllocError, Global};
+use std::cell::Cell;
 use std::collections::BTreeMap;
 
 /// What Linux adds to the path of a file that was deleted.
@@ -71,6 +72,27 @@ pub struct NamedFile<'m> {
     pub code_map: Option<CodeMap>,
     /// Why nothing was read of it. The vdso and other memory that is no file have no problem.
     pub problem: Option<FileProblem>,
+    /// Whether something of it was asked for, where it was left out: where nothing of it has been read so far.
+    left_out: Option<Cell<bool>>,
+}
+
+impl NamedFile<'_> {
+    /// Notes that something of this file was asked for, if it was left out.
+    pub(crate) fn note(&self) {
+        if let Some(asked) = &self.left_out {
+            asked.set(true);
+        }
+    }
+
+    /// Returns whether this file was left out, and something of it was asked for.
+    fn is_asked_for(&self) -> bool
+        ensures { result ≡ true → is_some self.now.left_out ≡ true }
+    {
+        match &self.left_out {
+            Some(asked) => asked.get(),
+            None => false,
+        }
+    }
 }
 
 /// The files that processes map. Their modules are of the type of those that lend bytes for `'m`.
@@ -114,14 +136,100 @@ impl<'m> Files<'m> {
         if self.numbers.get(name).is_some() {
             return Ok(());
         }
+        let file = load(alloc, source, name, build_id)?;
+        self.push(alloc, file)?;
+        Ok(())
+    }
+
+    /// Adds a file that a process maps, if it has not been added, and leaves it out: nothing of it is read before
+    /// [`Files::read_left_out`]. Fails only where an allocation does, or from 2^32 files on.
+    pub fn leave_out(&mut self, alloc: Global, name: &[u8]) -> Result<(), AllocError>
+        ensures bare { self.new.bare ≡ self.old.bare }
+        ensures known { IsSome (number_in self.old name.now) → (result ≡ Ok tt) × (self.new ≡ self.old) }
+        ensures added { number_in self.old name.now ≡ None → OnOk result (IsNextLeftOut name.now self.old self.new) }
+        ensures either { OnOk result (IsAddedLeftOut name.now self.old self.new) }
+    {
+        if self.numbers.get(name).is_some() {
+            return Ok(());
+        }
+        let file = left_out_file(alloc, name)?;
+        self.push(alloc, file)?;
+        Ok(())
+    }
+
+    /// Appends a file under its name.
+    fn push(&mut self, alloc: Global, file: NamedFile<'m>) -> Result<(), AllocError>
+        ensures bare { self.new.bare ≡ self.old.bare }
+        ensures added { OnOk result (IsNextFile file.entry self.old self.new) }
+    {
         let Ok(number) = u32::try_from(self.list.len()) else {
             return Err(AllocError);
         };
-        let key = Vec::from_slice(alloc, name)?;
-        let file = load(alloc, source, name, build_id)?;
+        let key = Vec::from_slice(alloc, file.name.as_slice())?;
         self.numbers.insert(key, number)?;
         self.list.push(file)?;
         Ok(())
+    }
+
+    /// Returns whether the file of a name was left out.
+    pub fn is_left_out(&self, name: &[u8]) -> bool
+        ensures { result ≡ is_left_out self.now name.now }
+    {
+        self.left_out_number(name).is_some()
+    }
+
+    /// Returns whether the file of a name was left out, and something of it was asked for: where an address in one of its
+    /// mappings is, the code there, or the rows of its `.debug_frame`. Which were is noted in cells, of which no clause
+    /// knows.
+    pub fn is_asked_for(&self, name: &[u8]) -> bool
+        ensures { result ≡ true → is_left_out self.now name.now ≡ true }
+    {
+        match self.called(name) {
+            Some(file) => file.is_asked_for(),
+            None => false,
+        }
+    }
+
+    /// Returns the file of a name.
+    fn called(&self, name: &[u8]) -> Option<&NamedFile<'m>>
+        ensures { option_map (λ file. file.now) result ≡ file_called self.now name.now }
+    {
+        self.get(self.number_of(name)?)
+    }
+
+    /// Reads the file of a name, if it was left out, as [`Files::add`] does. Fails only where an allocation does.
+    pub fn read_left_out<S: FileSource>(
+        &mut self,
+        alloc: Global,
+        source: &S,
+        name: &[u8],
+        build_id: &[u8],
+    ) -> Result<(), AllocError>
+        ensures bare { self.new.bare ≡ self.old.bare }
+        ensures kept { is_left_out self.old name.now ≡ false → (result ≡ Ok tt) × (self.new ≡ self.old) }
+        ensures read { is_left_out self.old name.now ≡ true → OnOk result
+            (IsRead (S.source source.now) name.now build_id.now self.old self.new) }
+    {
+        let Some(number) = self.left_out_number(name) else {
+            return Ok(());
+        };
+        self.list[number as usize] = load(alloc, source, name, build_id)?;
+        Ok(())
+    }
+
+    /// Returns the number of the file of a name, if it was left out.
+    fn left_out_number(&self, name: &[u8]) -> Option<u32>
+        ensures some { (number : ℕ) → result ≡ Some number → (number_in self.now name.now ≡ Some number)
+            × (number < length self.now.list.items) × (is_left_out self.now name.now ≡ true) }
+        ensures none { result ≡ None → is_left_out self.now name.now ≡ false }
+    {
+        let number = self.number_of(name)?;
+        let file = self.get(number)?;
+        if file.left_out.is_some() {
+            Some(number)
+        } else {
+            None
+        }
     }
 
     /// Adds the map of a process's code that is in no file, under a name, unless it has one. Fails only where an allocation
@@ -142,6 +250,7 @@ impl<'m> Files<'m> {
             object: None,
             code_map: Some(code_map),
             problem: None,
+            left_out: None,
         })?;
         Ok(())
     }
@@ -213,6 +322,7 @@ fn load<'m, S: FileSource>(
         object: None,
         code_map: None,
         problem: None,
+        left_out: None,
     };
     if is_read(name) {
         match read_with_names(alloc, source, name, build_id) {
@@ -226,6 +336,23 @@ fn load<'m, S: FileSource>(
         }
     }
     Ok(file)
+}
+
+/// Returns a file of which nothing is read: it is left out, if a source is to be asked for it.
+fn left_out_file<'m>(alloc: Global, name: &[u8]) -> Result<NamedFile<'m>, AllocError>
+    ensures { IfOk result (λ file. IsLeftOut name.now file) }
+{
+    Ok(NamedFile {
+        name: Vec::from_slice(alloc, name)?,
+        object: None,
+        code_map: None,
+        problem: None,
+        left_out: if is_read(name) {
+            Some(Cell::new(false))
+        } else {
+            None
+        },
+    })
 }
 
 /// Returns whether a source is asked for the file of a name.

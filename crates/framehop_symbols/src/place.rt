@@ -47,13 +47,29 @@ pub fn place_of<'a>(files: &'a Files<'_>, mappings: &[Mapping], address: u64) ->
     requires { IsInOrder 0 mappings.now }
     ensures { place_view result ≡ place_at files.entry.now mappings.now address }
 {
-    let Some(mapping) = mapping_at(mappings, address) else {
+    let Some(mapping) = mapping_asked_for(files, mappings, address) else {
         return Place::Unmapped;
     };
     match files.get(mapping.file) {
         Some(file) => place_in_file(file, mapping, address),
         None => Place::Unmapped,
     }
+}
+
+/// Returns the mapping that has an address (AVMA), of mappings in order, and notes that something of its file was asked for.
+pub(crate) fn mapping_asked_for(
+    files: &Files<'_>,
+    mappings: &[Mapping],
+    address: u64,
+) -> Option<Mapping>
+    requires { IsInOrder 0 mappings.now }
+    ensures { result ≡ find (has_address address) mappings.now }
+{
+    let mapping = mapping_at(mappings, address)?;
+    if let Some(file) = files.get(mapping.file) {
+        file.note();
+    }
+    Some(mapping)
 }
 
 /// Returns the mapping that has an address (AVMA), of mappings in order.

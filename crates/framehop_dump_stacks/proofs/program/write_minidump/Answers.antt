@@ -15,17 +15,17 @@ pub returns-clause-printed : goal.returns-clause-printed
 returns-clause-printed g c =
     let files = c.in_ok-files.files in
     let P : DumpView → Type 0 = λ d. ((shown : List ℕ) × IsShown c.args.explain (AreNotesOf c.args.limit d files) (text_of c.args.limit d files) shown
-    × Appends (g.W.Write.contents c.args.out.now) (g.W.Write.contents c.write_dump.new.out) shown)
+    × Appends (g.W.Write.contents c.args.out.now) (g.W.Write.contents c.write_dump_stacks.new.out) shown)
     × ((said : List ℕ) × IsSaid d files (mappings_in d files) said
-    × Appends (g.E.Write.contents c.args.err.now) (g.E.Write.contents c.write_dump.new.err) said) in
-    let both = subst P c.in_ok-whole.ensures (c.in_ok-write_dump.ensures.printed, c.in_ok-write_dump.ensures.said) in
+    × Appends (g.E.Write.contents c.args.err.now) (g.E.Write.contents c.write_dump_stacks.new.err) said) in
+    let both = subst P c.in_ok-whole.ensures (c.in_ok-write_dump_stacks.ensures.printed, c.in_ok-write_dump_stacks.ensures.said) in
     (files, c.in_ok-files.ensures, both.0, both.1)
 
-pub returns-in_err-write_dump-clause-refused : goal.returns-in_err-write_dump-clause-refused
-returns-in_err-write_dump-clause-refused g c =
-    let e = c.in_err-write_dump.field-0.0 in
+pub returns-in_err-write_dump_stacks-clause-refused : goal.returns-in_err-write_dump_stacks-clause-refused
+returns-in_err-write_dump_stacks-clause-refused g c =
+    let e = c.in_err-write_dump_stacks.field-0.0 in
     let source = g.S.FileSource.source c.args.source.now in
     let files = c.in_ok-files.files in
-    let may = subst (λ (d : DumpView). MayEnd (drawn_in d files) e) c.in_ok-whole.ensures c.in_err-write_dump.ensures.refused in
-    failed_as c.from_residual-in_err-write_dump.result e (MayEndWithModules source (dump_view c.args.dump, map loaded_view c.args.modules.now)) c.from_residual-in_err-write_dump.ensures.1
+    let may = subst (λ (d : DumpView). MayEnd (drawn_in d files) e) c.in_ok-whole.ensures c.in_err-write_dump_stacks.ensures.refused in
+    failed_as c.from_residual-in_err-write_dump_stacks.result e (MayEndWithModules source (dump_view c.args.dump, map loaded_view c.args.modules.now)) c.from_residual-in_err-write_dump_stacks.ensures.1
     (inr (files, c.in_ok-files.ensures, may))

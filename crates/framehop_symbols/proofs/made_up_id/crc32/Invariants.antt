@@ -1,4 +1,4 @@
-use Rattle.std.proofs.Common.{◌≡◌, ◌<◌, ◌^◌, take}
+use Rattle.std.proofs.Common.{◌≡◌, take}
 use Rattle.std.specs.Prelude.{fold}
 use Rattle.framehop_symbols.specs.MadeUpId.{after_byte}
 use Rattle.framehop_symbols.proofs.made_up_id.crc32.Given as goal

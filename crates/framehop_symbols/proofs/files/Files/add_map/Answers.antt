@@ -13,7 +13,7 @@ returns-clause-added c =
       none,
       record {
         file = (
-          record { name = c.args.name; object = None; code_map = Some c.args.code_map; problem = None },
+          record { name = c.args.name; object = None; code_map = Some c.args.code_map; problem = None; left_out = None },
           c.in_ok-push.ensures.items,
           record { called = refl; told = refl; no_object = refl; no_problem = refl },
         );
