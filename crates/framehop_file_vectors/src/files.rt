@@ -1,8 +1,13 @@
-//! Which file is read for a name: files that were deleted, copies by their build ids, and debug files.
+//! Which file is read for a name: files that were deleted, copies by their build ids, and debug files; and when a file is asked
+//! for that was left out.
 use crate::elf::{BUILD_ID, PROGRAM};
 use crate::pieces::holds;
+use framehop_processes::Mapping;
+use framehop_symbols::code::code_at;
+use framehop_symbols::debug_frame::debug_frame_at;
 use framehop_symbols::files::{FileSource, Files};
 use framehop_symbols::object_file::FileProblem;
+use framehop_symbols::place::place_of;
 use std::alloc::{AllocError, Global};
 use std::test::Fail;
 
@@ -98,4 +103,48 @@ fn runs_out(alloc: Global, bytes: &[u8]) -> Result<bool, Fail> {
 fn memory_that_runs_out_at_a_debug_file_is_told(rt: HostRuntime) -> Result<(), Fail> {
     let bytes = hex::decode(rt.alloc(), PROGRAM)?;
     holds(runs_out(rt.alloc(), bytes.as_slice())?)
+}
+
+/// The addresses of the first file.
+const MAPPINGS: [Mapping; 1] = [Mapping {
+    start: 0x1000,
+    end: 0x2000,
+    base_avma: 0x1000,
+    file: 0,
+    has_sections: true,
+}];
+
+/// What is looked up at an address.
+#[derive(Clone, Copy)]
+enum Look {
+    Place(u64),
+    Code(u64),
+    Rows(u64),
+}
+
+/// Returns whether a file that was left out is asked for by a look.
+fn is_asked_for(alloc: Global, look: Look) -> Result<bool, Fail> {
+    let mut files = Files::new(alloc)?;
+    files.leave_out(alloc, b"/bin/small")?;
+    match look {
+        Look::Place(address) => {
+            place_of(&files, &MAPPINGS, address);
+        }
+        Look::Code(address) => {
+            code_at(&files, &MAPPINGS, address);
+        }
+        Look::Rows(address) => {
+            debug_frame_at(&files, &MAPPINGS, address);
+        }
+    }
+    Ok(files.is_asked_for(b"/bin/small"))
+}
+
+#[test]
+fn a_file_that_was_left_out_is_asked_for_at_its_addresses(rt: HostRuntime) -> Result<(), Fail> {
+    let alloc = rt.alloc();
+    for look in [Look::Place(0x1fff), Look::Code(0x1000), Look::Rows(0x1000)] {
+        holds(is_asked_for(alloc, look)?)?;
+    }
+    holds(!is_asked_for(alloc, Look::Place(0x2000))?)
 }

@@ -289,7 +289,7 @@ fn move_sections(bytes: &mut [u8], sections: &Sections) {
 /// Returns where an offset is in a file of which parts are left out.
 fn moved(offset: u64, left_out: &[LeftOut]) -> u64 {
     let before = left_out.partition_point(|part| part.end <= offset);
-    match left_out.get(before.wrapping_sub(1)) {
+    match left_out[..before].last() {
         Some(part) => offset.saturating_sub(part.so_far),
         None => offset,
     }
