@@ -3,3 +3,4 @@ mod CodeMapLemmas
 mod FileLemmas
 mod MapLemmas
 mod PlaceLemmas
+mod PlainnessLemmas

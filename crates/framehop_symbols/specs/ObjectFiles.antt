@@ -152,10 +152,13 @@ is_underscored name = starts_with nat_eq name (codes "_")
 abbrev pub plainness_of : List ℕ → ℕ
 plainness_of name = if is_internal name || has_version name then 0 else (if is_underscored name then 1 else 2)
 
+-- how plain the name of a symbol is
+abbrev pub plainness_in : List ℕ → Symbol → ℕ
+plainness_in names symbol = plainness_of (before_nul (take LOOKED_AT (drop symbol.st_name names)))
+
 -- the name of a symbol is so plain
 abbrev pub is_so_plain : List ℕ → ℕ → Symbol → Bool
-is_so_plain names plainness symbol =
-    plainness_of (before_nul (take LOOKED_AT (drop symbol.st_name names))) == plainness
+is_so_plain names plainness symbol = plainness_in names symbol == plainness
 
 -- functions with the plainest names last, else in their order
 abbrev pub by_plainness : Listed → List Symbol

@@ -1,7 +1,6 @@
 //! Which of the names of a function is the plainest.
-ghost use Rattle.std.specs.Prelude.{◌≡◌, ◌++◌, IfOk, OnOk};
-ghost use Rattle.std.specs.List.{filter};
-ghost use Rattle.framehop_symbols.specs.ObjectFiles.{is_internal, has_version, is_underscored, plainness_of, is_so_plain, by_plainness};
+ghost use Rattle.std.specs.Prelude.{◌≡◌, ◌≤◌, IfOk};
+ghost use Rattle.framehop_symbols.specs.ObjectFiles.{is_internal, has_version, is_underscored, plainness_of, plainness_in, by_plainness};
 
 use framehop_bytes::bytes::{back, front};
 use framehop_bytes::string::before_nul;
@@ -19,42 +18,35 @@ pub(crate) fn by_plainness(
 ) -> Result<Vec<Symbol>, AllocError>
     ensures { IfOk result (λ ordered. ordered.items ≡ by_plainness (functions.now, names.now)) }
 {
+    let mut plainest = Vec::new(alloc);
+    let mut underscored = Vec::new(alloc);
     let mut ordered = Vec::new(alloc);
-    push_so_plain(&mut ordered, functions, names, 0)?;
-    push_so_plain(&mut ordered, functions, names, 1)?;
-    push_so_plain(&mut ordered, functions, names, 2)?;
+    for function in functions {
+        match plainness_in(names, *function) {
+            0 => ordered.push(*function)?,
+            1 => underscored.push(*function)?,
+            _ => plainest.push(*function)?,
+        }
+    }
+    ordered.extend_from_slice(underscored.as_slice())?;
+    ordered.extend_from_slice(plainest.as_slice())?;
     Ok(ordered)
 }
 
-/// Appends the functions whose names are so plain.
-fn push_so_plain(
-    ordered: &mut Vec<Symbol>,
-    functions: &[Symbol],
-    names: &[u8],
-    plainness: u8,
-) -> Result<(), AllocError>
-    ensures { OnOk result (ordered.new.items ≡ ordered.old.items ++ filter (is_so_plain names.now plainness) functions.now) }
-{
-    for function in functions {
-        if is_so_plain(names, plainness, *function) {
-            ordered.push(*function)?;
-        }
-    }
-    Ok(())
-}
-
-/// Returns whether the name of a function is so plain.
-fn is_so_plain(names: &[u8], plainness: u8, function: Symbol) -> bool
-    ensures { result ≡ is_so_plain names.now plainness function }
+/// Returns how plain the name of a function is.
+fn plainness_in(names: &[u8], function: Symbol) -> u8
+    ensures exact { result ≡ plainness_in names.now function }
+    ensures most { result ≤ 2 }
 {
     let name = front(back(names, u64::from(function.st_name)), LOOKED_AT);
-    plainness_of(before_nul(name)) == plainness
+    plainness_of(before_nul(name))
 }
 
 /// Returns how plain a name is: 0 with a version (`free@@GLIBC_2.2.5`) or where it begins with `__GI_`, as the C library's
 /// names for itself do, 1 where it begins with `_`, else 2.
 fn plainness_of(name: &[u8]) -> u8
-    ensures { result ≡ plainness_of name.now }
+    ensures exact { result ≡ plainness_of name.now }
+    ensures most { result ≤ 2 }
 {
     if is_internal(name) || has_version(name) {
         0
