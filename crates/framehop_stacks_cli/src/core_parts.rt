@@ -1,6 +1,6 @@
 //! Core files of which only parts are read: the headers and the notes, and of memory what is asked for.
 use crate::input::{read_at, read_front};
-use crate::object_parts::write_u64;
+use crate::object_parts::{ELF_HEADER_SIZE, PROGRAM_HEADER_SIZE, PT_NOTE, write_u64};
 use framehop_coredump::core_file::{Machine, read_core_file};
 use framehop_coredump::registers::{aarch64_registers, code_ptr_auth_mask, x86_64_registers};
 use framehop_dump_stacks::dump::{Dump, Registers};
@@ -16,17 +16,8 @@ use std::{fs, io};
 /// The most bytes of headers and notes that are read apart from memory: 64 MiB.
 const LARGEST_FRONT: u64 = 0x400_0000;
 
-/// The size of an ELF header, in bytes.
-const ELF_HEADER_SIZE: u64 = 64;
-
-/// The size of a program header, in bytes.
-const PROGRAM_HEADER_SIZE: u64 = 56;
-
 /// The offset of `p_offset` in a program header, in bytes.
 const P_OFFSET: u64 = 8;
-
-/// `PT_NOTE`.
-const PT_NOTE: u32 = 4;
 
 /// How many bytes before an address that is asked for are read with it: a walk may ask for what lies below it.
 const MARGIN: u64 = 0x1_0000;

@@ -44,8 +44,8 @@ struct Written {
     ended: std::result::Result<(), DumpStacksError>,
 }
 
-/// Prints the stacks of the threads of a core file, of which its front is read and the memory that is asked for, and of the
-/// files that were mapped those that are asked for. Where more is asked for than was read, nothing is printed, and all is done
+/// Prints the stacks of the threads of a core file, of which the headers and the notes are read and the memory that is asked
+/// for, and of the files that were mapped those that are asked for. Where more is asked for than was read, nothing is printed, and all is done
 /// again with it. Returns the status, or `None` where nothing is printed: of what is no core file, and of one that is to be
 /// read whole.
 pub fn print_core_parts(

@@ -16,13 +16,13 @@ const SMALLEST: u64 = 0x10_0000;
 const LARGEST_NAMES: u64 = 0x100_0000;
 
 /// The size of an ELF header, in bytes.
-const ELF_HEADER_SIZE: u64 = 64;
+pub const ELF_HEADER_SIZE: u64 = 64;
 
 /// The offset of `e_shoff` in an ELF header, in bytes.
 const E_SHOFF: u64 = 40;
 
 /// The size of a program header, in bytes.
-const PROGRAM_HEADER_SIZE: u64 = 56;
+pub const PROGRAM_HEADER_SIZE: u64 = 56;
 
 /// The size of a section header, in bytes.
 const SECTION_HEADER_SIZE: u64 = 64;
@@ -43,14 +43,14 @@ const SHT_NOBITS: u32 = 8;
 const SHF_EXECINSTR: u64 = 4;
 
 /// `PT_NOTE`.
-const PT_NOTE: u32 = 4;
+pub const PT_NOTE: u32 = 4;
 
 /// `PF_X`.
 const PF_X: u32 = 1;
 
 /// A part of a file that is left out.
 #[derive(Clone, Copy)]
-struct LeftOut {
+struct Gap {
     /// The offset at which it begins, in bytes.
     start: u64,
     /// The offset at which it ends, in bytes.
@@ -66,7 +66,7 @@ struct Sections {
     offset: u64,
     headers: Vec<SectionHeader>,
     /// In the order of their offsets, and apart.
-    left_out: Vec<LeftOut>,
+    left_out: Vec<Gap>,
 }
 
 /// Reads a file of a size: of an ELF file with a build id, of 1 MiB or more, without `.rodata`, `.data` and its sections
@@ -123,7 +123,7 @@ fn read_sections(
     let mut left_out = Vec::new(alloc);
     for section in &headers {
         if is_unasked(section, names.as_slice()) && is_inside(section, size) {
-            left_out.push(LeftOut {
+            left_out.push(Gap {
                 start: section.sh_offset,
                 end: section.sh_offset.saturating_add(section.sh_size),
                 so_far: 0,
@@ -215,7 +215,7 @@ fn is_unasked(section: &SectionHeader, names: &[u8]) -> bool {
 
 /// Counts what is left out by parts in the order of their offsets. Returns whether each begins after the one before, and the
 /// first after the code.
-fn add_up(left_out: &mut [LeftOut], code_end: u64) -> bool {
+fn add_up(left_out: &mut [Gap], code_end: u64) -> bool {
     let (mut end, mut so_far) = (code_end, 0u64);
     for part in left_out {
         if part.start < end {
@@ -229,7 +229,7 @@ fn add_up(left_out: &mut [LeftOut], code_end: u64) -> bool {
 }
 
 /// Returns whether all bytes of the other sections are kept.
-fn are_kept(headers: &[SectionHeader], names: &[u8], left_out: &[LeftOut]) -> bool {
+fn are_kept(headers: &[SectionHeader], names: &[u8], left_out: &[Gap]) -> bool {
     headers.iter().all(|section| {
         section.sh_type == SHT_NOBITS
             || is_unasked(section, names)
@@ -238,7 +238,7 @@ fn are_kept(headers: &[SectionHeader], names: &[u8], left_out: &[LeftOut]) -> bo
 }
 
 /// Returns whether so many bytes from an offset on are kept.
-fn is_kept(offset: u64, size: u64, left_out: &[LeftOut]) -> bool {
+fn is_kept(offset: u64, size: u64, left_out: &[Gap]) -> bool {
     let next = left_out.partition_point(|part| part.end <= offset);
     match left_out.get(next) {
         Some(part) => offset.saturating_add(size) <= part.start,
@@ -247,12 +247,7 @@ fn is_kept(offset: u64, size: u64, left_out: &[LeftOut]) -> bool {
 }
 
 /// Reads a file of a size without the parts that are left out.
-fn read_rest(
-    alloc: Global,
-    file: &mut File,
-    size: u64,
-    left_out: &[LeftOut],
-) -> io::Result<Vec<u8>> {
+fn read_rest(alloc: Global, file: &mut File, size: u64, left_out: &[Gap]) -> io::Result<Vec<u8>> {
     let without = moved(size, left_out);
     let mut bytes = Vec::from_elem(alloc, 0u8, without as usize)?;
     let mut rest = bytes.as_mut_slice();
@@ -287,7 +282,7 @@ fn move_sections(bytes: &mut [u8], sections: &Sections) {
 }
 
 /// Returns where an offset is in a file of which parts are left out.
-fn moved(offset: u64, left_out: &[LeftOut]) -> u64 {
+fn moved(offset: u64, left_out: &[Gap]) -> u64 {
     let before = left_out.partition_point(|part| part.end <= offset);
     match left_out[..before].last() {
         Some(part) => offset.saturating_sub(part.so_far),
