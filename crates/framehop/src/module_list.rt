@@ -51,7 +51,7 @@ impl<D: SectionBytes + Drop> ModuleList<D> {
     }
 
     /// Returns a list of these modules, each inserted after those that start at or below its start.
-    pub fn of_modules(alloc: Global, modules: Vec<Module<D>>) -> Result<Self, AllocError>
+    pub(crate) fn of_modules(alloc: Global, modules: Vec<Module<D>>) -> Result<Self, AllocError>
         ensures { IfOk result (λ list. list ≡ with_modules modules.items []) }
     {
         let mut list = ModuleList::new(alloc);
@@ -71,7 +71,7 @@ impl<D: SectionBytes + Drop> ModuleList<D> {
     }
 
     /// Returns the allocator of the list.
-    pub fn allocator(&self) -> Global {
+    pub(crate) fn allocator(&self) -> Global {
         *self.modules.allocator()
     }
 
@@ -107,7 +107,7 @@ impl<D: SectionBytes + Drop> ModuleList<D> {
     }
 
     /// Returns the index of the last module with this start (AVMA).
-    pub fn last_with_start(&self, start: u64) -> Option<usize>
+    pub(crate) fn last_with_start(&self, start: u64) -> Option<usize>
         ensures { MatchOption result (has_start start self.now ≡ false)
             (λ index. (index < length self.now) × (has_start start self.now ≡ true)
             × (remove self.now index ≡ without_module start self.now)) }

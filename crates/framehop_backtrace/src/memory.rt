@@ -41,7 +41,7 @@ pub fn is_in_trampoline<M: CodeMemory>(memory: &M, frame: FrameAddress) -> bool
 }
 
 /// Returns whether a frame's instruction pointer lies in no executable memory: a call has just led there.
-pub fn is_outside_code<M: CodeMemory>(memory: &M, frame: FrameAddress) -> bool
+pub(crate) fn is_outside_code<M: CodeMemory>(memory: &M, frame: FrameAddress) -> bool
     ensures { result ≡ is_outside_code (M.code memory.now) (location_of frame) }
 {
     match frame {
@@ -52,7 +52,7 @@ pub fn is_outside_code<M: CodeMemory>(memory: &M, frame: FrameAddress) -> bool
 
 /// Returns whether a return address (AVMA) is in executable memory: the call before it, or it itself as the start of a
 /// trampoline.
-pub fn is_in_code<M: CodeMemory>(memory: &M, address: u64) -> bool
+pub(crate) fn is_in_code<M: CodeMemory>(memory: &M, address: u64) -> bool
     ensures { result ≡ is_in_code (M.code memory.now) address }
 {
     memory.is_executable(address.saturating_sub(1)) || memory.is_executable(address)

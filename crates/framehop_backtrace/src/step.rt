@@ -40,7 +40,7 @@ pub fn step<U: Unwinder, M: WordMemory>(
 /// # Errors
 ///
 /// Those of [`UnwindRule::exec`].
-pub fn follow_frame_pointer<R: UnwindRule, M: WordMemory>(
+pub(crate) fn follow_frame_pointer<R: UnwindRule, M: WordMemory>(
     memory: &M,
     is_first_frame: bool,
     regs: &mut R::UnwindRegs,
@@ -58,7 +58,7 @@ pub fn follow_frame_pointer<R: UnwindRule, M: WordMemory>(
 /// # Errors
 ///
 /// Those of [`UnwindRule::exec`].
-pub fn step_at_start<R: UnwindRule, M: WordMemory>(
+pub(crate) fn step_at_start<R: UnwindRule, M: WordMemory>(
     memory: &M,
     regs: &mut R::UnwindRegs,
 ) -> Result<Option<u64>, Error>

@@ -187,7 +187,7 @@ pub fn unwind_frame<U: Unwinder>(
 }
 
 /// Walks on from a frame over the words of windows: [`walk_on`].
-pub fn walk_on_from<U: Unwinder>(
+pub(crate) fn walk_on_from<U: Unwinder>(
     unwinder: &U,
     cache: &mut U::Cache,
     address: u64,

@@ -55,7 +55,7 @@ impl Handle {
     ghost use Rattle.framehop_c.specs.Lending.{LendsObject};
 
     /// Lends the object.
-    pub fn object_mut(&mut self) -> &mut Object
+    pub(crate) fn object_mut(&mut self) -> &mut Object
         ensures* writes_back { sem 𝓛 (LendsObject self.entry result) }
         ensures object { result.now ≡ self.old.object }
     {
@@ -80,7 +80,7 @@ impl Handle {
 
 /// Puts an object into memory of its own, and writes a handle to it. Where memory runs out, the place
 /// is as it was.
-pub fn hand_out(alloc: Global, object: Object, place: &mut HandlePlace) -> i32
+pub(crate) fn hand_out(alloc: Global, object: Object, place: &mut HandlePlace) -> i32
     ensures written { result ≡ ok → place.new.object ≡ object }
     ensures kept { result ≢ ok → place.new ≡ place.old }
     ensures statuses { (result ≡ ok) ⊎ (result ≡ out_of_memory) }

@@ -48,7 +48,7 @@ impl<P: AllocationPolicy> CountsLookups for CacheAarch64<P> {
 }
 
 /// Returns the number of how the one lookup between two counts has ended.
-pub fn lookup_number(before: &CacheStats, after: &CacheStats) -> i32
+pub(crate) fn lookup_number(before: &CacheStats, after: &CacheStats) -> i32
     ensures { result ≡ lookup_between before.now after.now }
 {
     if after.hit_count != before.hit_count {

@@ -44,7 +44,7 @@ pub const FRAMEHOP_INTEGER_OVERFLOW: i32 = -13;
 pub const FRAMEHOP_RETURN_ADDRESS_IS_NULL: i32 = -14;
 
 /// Returns the number of a refusal to change the modules.
-pub fn list_error_status(error: ModuleListError) -> i32
+pub(crate) fn list_error_status(error: ModuleListError) -> i32
     ensures { result ≡ status_of_list_error error }
 {
     match error {
@@ -54,7 +54,7 @@ pub fn list_error_status(error: ModuleListError) -> i32
 }
 
 /// Returns the number of a refusal to unwind a frame.
-pub fn error_status(error: Error) -> i32
+pub(crate) fn error_status(error: Error) -> i32
     ensures status { result ≡ status_of_error error }
     ensures memory { (result ≡ out_of_memory) ↔ (error ≡ Error.OutOfMemory) }
     ensures other { (result ≢ wrong_handle) × (result ≢ missing_word) }
@@ -70,7 +70,7 @@ pub fn error_status(error: Error) -> i32
 }
 
 /// Returns the address (AVMA) of the stack word that could not be read, or 0 after another refusal.
-pub fn error_address(error: Error) -> u64
+pub(crate) fn error_address(error: Error) -> u64
     ensures { result ≡ unreadable_in error }
 {
     match error {
@@ -80,7 +80,7 @@ pub fn error_address(error: Error) -> u64
 }
 
 /// Returns the number of the end of a walk, and the address of the word that could not be read, or 0.
-pub fn end_status(end: WalkEnd) -> (i32, u64)
+pub(crate) fn end_status(end: WalkEnd) -> (i32, u64)
     ensures status { result.0 ≡ status_of_end (end_of end) }
     ensures memory { (result.0 ≡ out_of_memory) ↔ (end ≡ WalkEnd.Refused Error.OutOfMemory) }
     ensures no_address { result.0 ≡ out_of_memory → result.1 ≡ 0 }
@@ -96,7 +96,7 @@ pub fn end_status(end: WalkEnd) -> (i32, u64)
 
 /// Returns the number of why a walk over windows has stopped, and the address of the word that could not be
 /// read or is missing, or 0.
-pub fn stop_status(stop: WalkStop) -> (i32, u64)
+pub(crate) fn stop_status(stop: WalkStop) -> (i32, u64)
     ensures status { result.0 ≡ status_of_stop stop }
     ensures memory { (result.0 ≡ out_of_memory) ↔ (stop ≡ WalkStop.Ended (WalkEnd.Refused Error.OutOfMemory)) }
     ensures missing { (result.0 ≡ missing_word) ↔ (stop ≡ WalkStop.Missing result.1) }
@@ -111,7 +111,7 @@ pub fn stop_status(stop: WalkStop) -> (i32, u64)
 }
 
 /// Returns the number of what a step returned.
-pub fn answer_status(answer: Result<Option<u64>, Error>) -> i32
+pub(crate) fn answer_status(answer: Result<Option<u64>, Error>) -> i32
     ensures status { result ≡ status_of_answer answer }
     ensures memory { (result ≡ out_of_memory) ↔ (answer ≡ Err Error.OutOfMemory) }
     ensures other { result ≢ wrong_handle }
@@ -124,7 +124,7 @@ pub fn answer_status(answer: Result<Option<u64>, Error>) -> i32
 }
 
 /// Returns the return address (AVMA) that a step returned, or 0.
-pub fn answered_address(answer: Result<Option<u64>, Error>) -> u64
+pub(crate) fn answered_address(answer: Result<Option<u64>, Error>) -> u64
     ensures { result ≡ address_in answer }
 {
     match answer {
@@ -134,7 +134,7 @@ pub fn answered_address(answer: Result<Option<u64>, Error>) -> u64
 }
 
 /// Returns the address (AVMA) of the stack word that a step could not read, or 0.
-pub fn refused_address(answer: Result<Option<u64>, Error>) -> u64
+pub(crate) fn refused_address(answer: Result<Option<u64>, Error>) -> u64
     ensures { result ≡ unreadable_after answer }
 {
     match answer {

@@ -13,7 +13,7 @@ use std::alloc::{AllocError, Global};
 use std::marker::Model;
 
 /// How many sets the cache has.
-pub const CACHE_SET_COUNT: usize = 509;
+pub(crate) const CACHE_SET_COUNT: usize = 509;
 
 /// A cache of unwind rules by lookup address (AVMA), generation of the unwinder's modules, and
 /// kind of frame. It has 509 sets of two entries; an address has its entries in one of them.

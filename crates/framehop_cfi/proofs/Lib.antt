@@ -1,6 +1,7 @@
 pub mod Leb
 pub mod Run
 pub mod Cursor
+pub mod CursorRoom
 pub mod Table
 pub mod Turn
 pub mod SharedRules

@@ -153,6 +153,16 @@ module _ (code : InstructionList) where
   needs-later n at location moved read inside is moves near needs =
       rw (lt-leb (length code.bytes) at inside, is) (rw moves (rw (near, needs) (or-true (needs_room read.0))))
 
+  -- what is left of a list after one of its instructions needs room only where the whole does
+  pub needs-on : (n at location moved : ℕ) (read : CallFrameInstruction × ℕ) (needed : Bool) → IsIn code n at
+      → instruction_at code.cie code.bases code.bytes at ≡ Ok read
+      → location_after code.cie code.address location read.0 ≡ Ok moved → is_beyond code.address moved ≡ false
+      → at < read.1 → (one_needs_room code n at location ≡ true → needed ≡ true)
+      → (m : ℕ) × (length code.bytes < m + read.1) × (one_needs_room code m read.1 moved ≡ true → needed ≡ true)
+  needs-on zero at location moved read needed inside is moves near further needs = absurd (omega arith)
+  needs-on (suc n) at location moved read needed inside is moves near further needs =
+      (n, omega arith, λ later. needs (needs-later n at location moved read inside.1 is moves near later))
+
   -- what is known of a list at one of its instructions is known after it
   pub one-on : (limits : Option StorageLimits) (n at location moved : ℕ) (rows after : TableRows)
       (read : CallFrameInstruction × ℕ) (whole : Result TableRows ReadError) (needed : Bool) → IsIn code n at

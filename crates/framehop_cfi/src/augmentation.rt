@@ -9,7 +9,7 @@ use crate::read_error::ReadError;
 
 /// What a CIE's augmentation tells.
 #[derive(Clone, Copy)]
-pub struct Augmentation {
+pub(crate) struct Augmentation {
     /// How the FDEs encode their addresses.
     pub encoding: u8,
     /// Whether the FDEs have augmentation data.
@@ -20,7 +20,7 @@ pub struct Augmentation {
 
 /// Returns where the zero byte stands that ends a text.
 #[tactic(auto, unfolding(crate::specs::Augmentation::terminator_at))]
-pub fn find_terminator(bytes: &[u8], at: usize) -> Result<usize, ReadError>
+pub(crate) fn find_terminator(bytes: &[u8], at: usize) -> Result<usize, ReadError>
     ensures exact { result ≡ terminator_at bytes.now at }
     ensures within { IfOk result (λ terminator. (at ≤ terminator) × (terminator < length bytes.now)) }
     ensures memory { result ≢ Err ReadError.OutOfMemory }
@@ -44,7 +44,7 @@ fn first_zero(bytes: &[u8]) -> Option<usize>
 
 impl SectionBaseAddresses {
     /// Returns the augmentation by its text's letters; `at` is where its data begins.
-    pub fn read_augmentation(
+    pub(crate) fn read_augmentation(
         &self,
         letters: &[u8],
         bytes: &[u8],
@@ -139,7 +139,7 @@ impl SectionBaseAddresses {
 
 /// Returns data whose length stands before it: where it begins, and where it ends.
 #[tactic(auto, unfolding(crate::specs::Augmentation::counted_at))]
-pub fn read_counted(bytes: &[u8], at: usize) -> Result<(usize, usize), ReadError>
+pub(crate) fn read_counted(bytes: &[u8], at: usize) -> Result<(usize, usize), ReadError>
     ensures exact { result ≡ counted_at bytes.now at }
     ensures within { IfOk result (λ place. (at < place.0) × (place.0 ≤ place.1) × (place.1 ≤ length bytes.now)) }
     ensures memory { result ≢ Err ReadError.OutOfMemory }

@@ -8,7 +8,7 @@ ghost use Rattle.framehop_cfi.specs.Outcome.{Becomes};
 ghost use Rattle.framehop_cfi.specs.Row.{Row};
 ghost use Rattle.framehop_cfi.specs.RowMeaning.{IsRowAt};
 ghost use Rattle.framehop_cfi.specs.RowRoom.{needs_room, list_needs_room, row_needs_room};
-ghost use Rattle.framehop_cfi.specs.RowAt.{location_after, risen, is_beyond, run_from, rows_at, row_at, start, begun, covers};
+ghost use Rattle.framehop_cfi.specs.RowAt.{location_after, risen, is_beyond, run_from, rows_at, row_at, start, begun, covers, instructions_of_cie, instructions_of_fde};
 ghost use Rattle.framehop_cfi.specs.RowCursor.{HasReached, HaveRow, HaveNoRow};
 ghost use Rattle.framehop_cfi.specs.Turn.{Turns, turn, obeyed, turn_needs_room, obeying_needs_room};
 
@@ -137,7 +137,8 @@ impl<S: UnwindContextStorage> UnwindContext<S> {
     /// Begins the rows of an FDE: runs the instructions of its CIE. The rows follow by `next_row`, each instruction being
     /// read once.
     ///
-    /// An error is that of the row of each address. `OutOfMemory` is returned only where the storage has no limits.
+    /// An error is that of the row of each address. `OutOfMemory` is returned only where the storage has no limits and one
+    /// of those instructions gives a register a rule or remembers the row.
     pub fn begin_rows(
         &mut self,
         section: &UnwindSection,
@@ -148,6 +149,10 @@ impl<S: UnwindContextStorage> UnwindContext<S> {
         ensures refused { IfErr result (λ error. error ≢ ReadError.OutOfMemory →
             HaveNoRow S.limits section.now fde.now fde.now.initial_address error) }
         ensures memory { IsErrOf result ReadError.OutOfMemory → S.limits ≡ None }
+        ensures room { IsErrOf result ReadError.OutOfMemory →
+            list_needs_room (instructions_of_cie section.now fde.now.cie) fde.now.cie.instructions 0 ≡ true }
+        ensures bare { list_needs_room (instructions_of_cie section.now fde.now.cie) fde.now.cie.instructions 0 ≡ false →
+            OnOk result (self.new.remembered ≡ []) }
     {
         self.clear();
         let cie = &fde.cie;
@@ -410,7 +415,8 @@ impl<S: UnwindContextStorage> UnwindContext<S> {
     /// its last row. A call begins where the one before it ended, with the rows as that left them.
     ///
     /// An error is that of the row of each address from the cursor's location on. `OutOfMemory` is returned only where the
-    /// storage has no limits.
+    /// storage has no limits, and an instruction before the next row gives a register a rule or remembers the row, or a row
+    /// was remembered.
     pub fn next_row(
         &mut self,
         section: &UnwindSection,
@@ -429,6 +435,11 @@ impl<S: UnwindContextStorage> UnwindContext<S> {
             IfErr result (λ error. error ≢ ReadError.OutOfMemory →
             HaveNoRow S.limits section.now fde.now cursor.location error) }
         ensures memory { IsErrOf result ReadError.OutOfMemory → S.limits ≡ None }
+        ensures room { IsErrOf result ReadError.OutOfMemory → self.old.remembered ≡ [] →
+            list_needs_room (instructions_of_fde section.now fde.now cursor.location) cursor.next cursor.location ≡ true }
+        ensures bare { self.old.remembered ≡ [] →
+            list_needs_room (instructions_of_fde section.now fde.now cursor.location) cursor.next cursor.location ≡ false →
+            OnOk result (self.new.remembered ≡ []) }
     {
         let bytes = front(section.bytes, fde.end);
         let mut next = cursor.next;

@@ -32,56 +32,56 @@ pub struct SectionBaseAddresses {
 }
 
 /// An address of eight bytes, which counts from nothing.
-pub const DW_EH_PE_ABSPTR: u8 = 0x00;
+pub(crate) const DW_EH_PE_ABSPTR: u8 = 0x00;
 
 /// An unsigned LEB128 number.
-pub const DW_EH_PE_ULEB128: u8 = 0x01;
+pub(crate) const DW_EH_PE_ULEB128: u8 = 0x01;
 
 /// An unsigned number of two bytes.
-pub const DW_EH_PE_UDATA2: u8 = 0x02;
+pub(crate) const DW_EH_PE_UDATA2: u8 = 0x02;
 
 /// An unsigned number of four bytes.
-pub const DW_EH_PE_UDATA4: u8 = 0x03;
+pub(crate) const DW_EH_PE_UDATA4: u8 = 0x03;
 
 /// An unsigned number of eight bytes.
-pub const DW_EH_PE_UDATA8: u8 = 0x04;
+pub(crate) const DW_EH_PE_UDATA8: u8 = 0x04;
 
 /// A signed LEB128 number.
-pub const DW_EH_PE_SLEB128: u8 = 0x09;
+pub(crate) const DW_EH_PE_SLEB128: u8 = 0x09;
 
 /// A signed number of two bytes.
-pub const DW_EH_PE_SDATA2: u8 = 0x0a;
+pub(crate) const DW_EH_PE_SDATA2: u8 = 0x0a;
 
 /// A signed number of four bytes.
-pub const DW_EH_PE_SDATA4: u8 = 0x0b;
+pub(crate) const DW_EH_PE_SDATA4: u8 = 0x0b;
 
 /// A signed number of eight bytes.
-pub const DW_EH_PE_SDATA8: u8 = 0x0c;
+pub(crate) const DW_EH_PE_SDATA8: u8 = 0x0c;
 
 /// A pointer counts from its own address.
-pub const DW_EH_PE_PCREL: u8 = 0x10;
+pub(crate) const DW_EH_PE_PCREL: u8 = 0x10;
 
 /// A pointer counts from the text.
-pub const DW_EH_PE_TEXTREL: u8 = 0x20;
+pub(crate) const DW_EH_PE_TEXTREL: u8 = 0x20;
 
 /// A pointer counts from the data.
-pub const DW_EH_PE_DATAREL: u8 = 0x30;
+pub(crate) const DW_EH_PE_DATAREL: u8 = 0x30;
 
 /// A pointer counts from the start of its function, which is not read here.
-pub const DW_EH_PE_FUNCREL: u8 = 0x40;
+pub(crate) const DW_EH_PE_FUNCREL: u8 = 0x40;
 
 /// From this encoding on a pointer is not the value but the place of it.
-pub const DW_EH_PE_INDIRECT: u8 = 0x80;
+pub(crate) const DW_EH_PE_INDIRECT: u8 = 0x80;
 
 /// The encoding of a pointer that is not there.
-pub const DW_EH_PE_OMIT: u8 = 0xff;
+pub(crate) const DW_EH_PE_OMIT: u8 = 0xff;
 
 impl SectionBaseAddresses {
     ghost use Rattle.framehop_cfi.specs.Pointer.{base_of, application_of, pointer_at};
 
     /// Returns a pointer of that encoding. Whether it is indirect is not looked at.
     #[tactic(auto, unfolding(crate::specs::Pointer::pointer_at))]
-    pub fn read_pointer(
+    pub(crate) fn read_pointer(
         &self,
         bytes: &[u8],
         at: usize,
@@ -115,7 +115,7 @@ impl SectionBaseAddresses {
 
 /// Returns a pointer by its format only (the encoding's low four bits), as a number of 64 bits.
 #[tactic(auto, unfolding(crate::specs::Raw::raw_at))]
-pub fn read_raw_pointer(bytes: &[u8], at: usize, encoding: u8) -> Result<(u64, usize), ReadError>
+pub(crate) fn read_raw_pointer(bytes: &[u8], at: usize, encoding: u8) -> Result<(u64, usize), ReadError>
     ensures exact { result ≡ raw_at (format_of encoding) bytes.now at }
     ensures forward { IfOk result (λ read. at < read.1) }
     ensures refusal { IfErr result IsSliceRefusal }

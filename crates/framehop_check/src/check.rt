@@ -38,7 +38,7 @@ pub struct Item {
 
 /// Where the check has got to.
 #[derive(Clone, Copy, Debug, PartialEq, Eq)]
-pub struct Pass {
+pub(crate) struct Pass {
     pub tracked: Tracked,
     /// The address of the instruction before (SVMA).
     pub before: u64,

@@ -18,7 +18,7 @@ pub enum Claim {
 
 /// Returns what a row says of the CFA. A row whose return address is undefined, as in the outermost function of a thread,
 /// says nothing: no caller is looked for.
-pub fn claim_of_row<C: Code, S: UnwindContextStorage>(row: &UnwindTableRow<S>) -> Claim
+pub(crate) fn claim_of_row<C: Code, S: UnwindContextStorage>(row: &UnwindTableRow<S>) -> Claim
     ensures { result ≡ claim_of_row C.numbered C.return_column row.now }
 {
     match row.register(Register(C::return_address())) {

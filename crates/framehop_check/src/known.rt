@@ -35,7 +35,7 @@ fn after_change(known: Known, change: Change) -> Option<i64>
 /// Returns what is known at an instruction once its row is read: what the code tells, and what the row says of its register
 /// where the code tells nothing. Of what no row says anything, as where the CFA counts from a third register, a loop can
 /// make something else, so that nothing is known there.
-pub fn agreed(known: Known, claim: Claim) -> Known
+pub(crate) fn agreed(known: Known, claim: Claim) -> Known
     ensures { result ≡ agreed known claim }
 {
     match claim {
@@ -48,7 +48,7 @@ pub fn agreed(known: Known, claim: Claim) -> Known
 }
 
 /// Returns how far the CFA is above a register.
-pub fn known_of(known: Known, base: Base) -> Option<i64>
+pub(crate) fn known_of(known: Known, base: Base) -> Option<i64>
     ensures { result ≡ known_of known base }
 {
     match base {

@@ -70,7 +70,7 @@ impl Report {
 }
 
 /// Adds an alarm, if there is one.
-pub fn add_alarm(alarms: &mut Vec<Alarm>, alarm: Option<Alarm>) -> Result<(), AllocError>
+pub(crate) fn add_alarm(alarms: &mut Vec<Alarm>, alarm: Option<Alarm>) -> Result<(), AllocError>
     ensures { OnOk result (alarms.new.items ≡ alarms.old.items ++ list_of alarm) }
 {
     if let Some(alarm) = alarm {

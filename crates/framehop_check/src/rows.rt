@@ -21,7 +21,7 @@ pub struct Span {
 }
 
 /// Returns what the row of an address (SVMA) says of the CFA, by spans in order.
-pub fn claim_at(spans: &[Span], address: u64) -> Option<Claim>
+pub(crate) fn claim_at(spans: &[Span], address: u64) -> Option<Claim>
     requires { IsNonDecreasingBy end_of spans.now }
     ensures { result ≡ claim_at spans.now address }
 {
@@ -49,7 +49,7 @@ fn claim_of_span(address: u64, span: Span) -> Option<Claim>
 /// # Errors
 ///
 /// An allocation failed.
-pub fn read_spans<C: Code, S: UnwindContextStorage>(
+pub(crate) fn read_spans<C: Code, S: UnwindContextStorage>(
     context: &mut UnwindContext<S>,
     section: &UnwindSection,
     fde: &FrameDescriptionEntry,

@@ -72,7 +72,7 @@ pub fn beginning() -> Tracked
 }
 
 /// Returns whether an instruction is padding that is come to from nowhere. Its row is not looked at.
-pub fn is_passed(tracked: Tracked, effect: Effect) -> bool
+pub(crate) fn is_passed(tracked: Tracked, effect: Effect) -> bool
     ensures { result ≡ is_passed tracked effect }
 {
     match (tracked.came, effect.flow) {
@@ -82,7 +82,7 @@ pub fn is_passed(tracked: Tracked, effect: Effect) -> bool
 }
 
 /// Returns what contradicts a row at an instruction, if anything does.
-pub fn fault_at(tracked: Tracked, claim: Claim) -> Option<Fault>
+pub(crate) fn fault_at(tracked: Tracked, claim: Claim) -> Option<Fault>
     ensures { result ≡ fault_at tracked claim }
 {
     let Claim::Above { base, offset } = claim else {
@@ -127,7 +127,7 @@ pub fn step(tracked: Tracked, claim: Claim, effect: Effect) -> Tracked
 }
 
 /// Returns what is known at an instruction before its row is read, by how it is come to.
-pub fn arriving(tracked: Tracked, claim: Claim) -> Known
+pub(crate) fn arriving(tracked: Tracked, claim: Claim) -> Known
     ensures { result ≡ arriving tracked claim }
 {
     match tracked.came {
@@ -151,7 +151,7 @@ fn came_after(came: Came, flow: Flow) -> Came
 }
 
 /// Returns what contradicts a return: the stack pointer is not where it was at the function's entry.
-pub fn fault_of_return<C: Code>(known: Known, flow: Flow) -> Option<Fault>
+pub(crate) fn fault_of_return<C: Code>(known: Known, flow: Flow) -> Option<Fault>
     ensures { result ≡ fault_of_return C.entry known flow }
 {
     match (flow, known.sp) {
@@ -161,7 +161,7 @@ pub fn fault_of_return<C: Code>(known: Known, flow: Flow) -> Option<Fault>
 }
 
 /// Returns what contradicts the row of a jump's target, an SVMA, by what is known after the jump.
-pub fn fault_of_jump(known: Known, target: u64, claim: Claim) -> Option<Fault>
+pub(crate) fn fault_of_jump(known: Known, target: u64, claim: Claim) -> Option<Fault>
     ensures { result ≡ fault_of_jump known target claim }
 {
     let Claim::Above { base, offset } = claim else {

@@ -2,7 +2,6 @@
 pub mod Caller
 pub mod Convention
 pub mod Evaluation
-pub mod Frame
 pub mod Load
 pub mod RegisterFile
 pub mod Rules

@@ -10,7 +10,6 @@
 pub mod caller;
 pub mod convention;
 pub mod evaluation;
-pub mod frame;
 pub mod load;
 pub mod memory;
 pub mod register_file;

@@ -23,7 +23,7 @@ pub enum Width {
 /// Reads the operation at an offset of an expression, if it is one that reads memory: how many bytes it reads, and the
 /// offset after it. `None` for every other operation, and for one that the bytes don't hold whole.
 #[tactic(auto, unfolding(crate::specs::Load::load_at))]
-pub fn read_load(code: &[u8], at: usize) -> Option<(Width, usize)>
+pub(crate) fn read_load(code: &[u8], at: usize) -> Option<(Width, usize)>
     ensures { result ≡ load_at code.now at }
 {
     let Ok((operation, next)) = read_u8(code, at) else {

@@ -32,7 +32,7 @@ pub fn cfa_of<M: WordMemory>(
 
 /// Returns the value of a register that a row doesn't name: the stack pointer is the CFA, a register that functions keep
 /// has its own value, and of others nothing is known.
-pub fn by_convention(
+pub(crate) fn by_convention(
     convention: Convention,
     register: Register,
     cfa: u64,

@@ -10,7 +10,7 @@ use std::alloc::{AllocError, Global};
 /// instruction.
 ///
 /// Source: `winnt.h`, `EXCEPTION_RECORD`; `ntstatus.h`.
-pub fn exception_text(alloc: Global, exception: Exception) -> Result<String, AllocError>
+pub(crate) fn exception_text(alloc: Global, exception: Exception) -> Result<String, AllocError>
     ensures { IfOk result (λ text. string_bytes text ≡ exception_text exception) }
 {
     let mut text = code_text(alloc, exception.code)?;
@@ -30,7 +30,7 @@ fn code_text(alloc: Global, code: u32) -> Result<String, AllocError>
 }
 
 /// Returns the code of an exception that has no name.
-pub fn unnamed_exception(alloc: Global, code: u32) -> Result<String, AllocError>
+pub(crate) fn unnamed_exception(alloc: Global, code: u32) -> Result<String, AllocError>
     ensures { IfOk result (λ text. string_bytes text ≡ unnamed_exception code) }
 {
     Ok(format!(in alloc; "exception 0x{code:x}")?)

@@ -21,7 +21,7 @@ use framehop_symbols::files::Files;
 use std::alloc::{AllocError, Global};
 
 /// Returns the text of all threads with a note under each frame, which says what its caller comes from.
-pub fn explained_text<U: Dumped>(
+pub(crate) fn explained_text<U: Dumped>(
     alloc: Global,
     dump: &Dump<'_>,
     files: &Files<'_>,

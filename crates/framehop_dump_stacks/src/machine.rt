@@ -14,7 +14,7 @@ use framehop_frames::machine::{Start, Steps};
 use framehop_minidump::registers as context;
 
 /// An unwinder for the threads of core files and minidumps of its machine.
-pub trait Dumped: Steps {
+pub(crate) trait Dumped: Steps {
     // the registers of a thread
     ghost begins: { RegistersView → Option (Start Self.UnwindRegs) };
 

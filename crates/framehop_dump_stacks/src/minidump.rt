@@ -249,7 +249,7 @@ fn build_id_by<'a>(name: &[u8], codeview: Option<CodeView<'a>>) -> &'a [u8]
 /// is listed, that of the list of memory, of that of its regions, and of the number of the process; `SharedHeaders`;
 /// `OutOfMemory`.
 #[tactic(auto, unfolding(crate::specs::Minidump::dump_in))]
-pub fn dump_in<'a>(
+pub(crate) fn dump_in<'a>(
     alloc: Global,
     file: &'a [u8],
     parts: &'a Parts,
@@ -481,7 +481,7 @@ fn separator(platform: u32) -> u8
 }
 
 /// Reads the files of modules, each once.
-pub fn read_module_files<'m, S: FileSource>(
+pub(crate) fn read_module_files<'m, S: FileSource>(
     alloc: Global,
     modules: &[LoadedModule],
     source: &S,

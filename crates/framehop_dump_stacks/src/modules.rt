@@ -80,7 +80,7 @@ fn is_to_be_read(files: &Files<'_>, path: &[u8], all: bool) -> bool
 
 /// Makes the modules of mappings, by the files of a dump and by its memory, which lends its bytes for `'m`.
 #[derive(Drop)]
-pub struct DumpModules<'a, 'm> {
+pub(crate) struct DumpModules<'a, 'm> {
     pub dump: &'a Dump<'m>,
     pub files: &'a Files<'m>,
     /// Where memory has the unwind data of the files whose code the dump has.
@@ -189,7 +189,7 @@ impl<'m, U: FileUnwinder<MappedBytes<'m>>> ModuleMaker<U> for DumpModules<'_, 'm
 }
 
 /// Returns the process of a dump, with the mappings of its code in their order.
-pub fn map_files<U: ProcessUnwinder, M: ModuleMaker<U>>(
+pub(crate) fn map_files<U: ProcessUnwinder, M: ModuleMaker<U>>(
     alloc: Global,
     maker: &M,
     dump: &Dump<'_>,

@@ -20,7 +20,7 @@ const FIRST_OF_KERNEL: u64 = 0x8000_0000_0000_0000;
 
 /// Returns what is said of a dump: that its file is cut short, that it is of a 32-bit process of Windows, and of each file of
 /// which nothing was read, that lacks unwind data or names, or whose unwind data is compressed.
-pub fn said_text(
+pub(crate) fn said_text(
     alloc: Global,
     modules: &DumpModules<'_, '_>,
     mappings: &[Mapping],

@@ -35,38 +35,6 @@ use framehop_symbols::mapped_bytes::MappedBytes;
 use std::alloc::{AllocError, Global};
 use std::io::Write;
 
-/// Writes the stacks of the threads of a core file to `out`, and then to `err` what was missing: bytes of the file itself, and
-/// files that were not read, or lack unwind data or names. Where they are to be
-/// explained, a note under each frame says what its caller came from.
-///
-/// # Errors
-///
-/// `Core` with the first refusal of the core file; `OutOfMemory`, `GenerationsExhausted` and `CannotWrite`.
-pub fn write_core_stacks<S: FileSource, W: Write, E: Write>(
-    alloc: Global,
-    file: &[u8],
-    source: &S,
-    limit: u32,
-    explain: bool,
-    out: &mut W,
-    err: &mut E,
-) -> Result<(), DumpStacksError>
-    ensures printed { OnOk result ((dump : DumpView) × (core_dump_of file.now ≡ Ok dump)
-        × ((files : Files) × AreFilesOf (S.source source.now) dump files
-        × ((shown : List ℕ) × IsShown explain (AreNotesOf limit dump files) (text_of limit dump files) shown
-        × Appends (W.contents out.old) (W.contents out.new) shown)
-        × ((said : List ℕ) × IsSaid dump files (mappings_in dump files) said
-        × Appends (E.contents err.old) (E.contents err.new) said))) }
-    ensures refused { (refusal : CoreFileError) → core_dump_of file.now ≡ Err refusal → IfErr result (λ error.
-        (error ≡ of_core_file refusal) ⊎ (error ≡ DumpStacksError.OutOfMemory)) }
-    ensures read { (dump : DumpView) → core_dump_of file.now ≡ Ok dump → IfErr result (MayEndWith (S.source source.now) dump) }
-{
-    let dump = read_core_dump(alloc, file)?;
-    let files = read_files(alloc, &dump, source)?;
-    write_dump_stacks(alloc, &dump, &files, limit, explain, out, err)?;
-    Ok(())
-}
-
 /// Writes the stacks of the threads of a minidump to `out`, and then to `err` what was missing, as [`write_core_stacks`]
 /// does of a core file.
 ///

@@ -31,36 +31,6 @@ use framehop_symbols::mapped_bytes::MappedBytes;
 use std::alloc::Global;
 use std::io::Write;
 
-/// Writes a report of the stacks of a core file to `out`, and then to `err` what was missing, as
-/// [`crate::program::write_core_stacks`] does.
-///
-/// # Errors
-///
-/// `Core` with the first refusal of the core file; `OutOfMemory`, `GenerationsExhausted` and `CannotWrite`.
-pub fn report_core_stacks<S: FileSource, R: Report, W: Write, E: Write>(
-    alloc: Global,
-    file: &[u8],
-    source: &S,
-    limit: u32,
-    report: &R,
-    out: &mut W,
-    err: &mut E,
-) -> Result<(), DumpStacksError>
-    ensures printed { OnOk result ((dump : DumpView) × (core_dump_of file.now ≡ Ok dump)
-        × ((files : Files) × AreFilesOf (S.source source.now) dump files
-        × ((text : List ℕ) × R.makes report.now dump files (mappings_in dump files) (stacks_in limit dump files) text
-        × Appends (W.contents out.old) (W.contents out.new) text)
-        × ((said : List ℕ) × IsSaid dump files (mappings_in dump files) said
-        × Appends (E.contents err.old) (E.contents err.new) said))) }
-    ensures refused { (refusal : CoreFileError) → core_dump_of file.now ≡ Err refusal → IfErr result (λ error.
-        (error ≡ of_core_file refusal) ⊎ (error ≡ DumpStacksError.OutOfMemory)) }
-{
-    let dump = read_core_dump(alloc, file)?;
-    let files = read_files(alloc, &dump, source)?;
-    report_dump_stacks(alloc, &dump, &files, limit, report, out, err)?;
-    Ok(())
-}
-
 /// Writes a report of the stacks of a minidump to `out`, and then to `err` what was missing, as
 /// [`crate::program::write_minidump_stacks`] does.
 ///

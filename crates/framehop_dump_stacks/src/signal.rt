@@ -43,7 +43,7 @@ const FIRST_NEGATIVE: u32 = 0x8000_0000;
 
 /// Returns a signal as it is printed: its name, and why it was sent, with the address of a fault or the process that sent
 /// it, where that is told.
-pub fn signal_text(alloc: Global, signal: Signal) -> Result<String, AllocError>
+pub(crate) fn signal_text(alloc: Global, signal: Signal) -> Result<String, AllocError>
     ensures { IfOk result (λ text. string_bytes text ≡ signal_text signal) }
 {
     let mut text = number_text(alloc, signal.number)?;

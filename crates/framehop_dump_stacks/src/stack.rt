@@ -27,7 +27,7 @@ use std::alloc::{AllocError, Global};
 
 /// Walks the stack of a thread by at most `limit` frames, over the words of memory. Returns `None`
 /// where the thread has not the registers with which a walk begins.
-pub fn walk_thread<U: Dumped>(
+pub(crate) fn walk_thread<U: Dumped>(
     alloc: Global,
     dump: &Dump<'_>,
     files: &Files<'_>,

@@ -22,7 +22,7 @@ use framehop_symbols::files::Files;
 use std::alloc::{AllocError, Global};
 
 /// Returns the text of all threads, in their order.
-pub fn threads_text<U: Dumped>(
+pub(crate) fn threads_text<U: Dumped>(
     alloc: Global,
     dump: &Dump<'_>,
     files: &Files<'_>,

@@ -16,7 +16,7 @@ pub struct NamedThread {
 
 /// The names of threads.
 #[derive(Drop)]
-pub struct ThreadNames<'a> {
+pub(crate) struct ThreadNames<'a> {
     listed: &'a [NamedThread],
     by_tid: BTreeMap<u32, &'a [u8]>,
     ghost known: { HasNames (map named_view listed.now) by_tid },

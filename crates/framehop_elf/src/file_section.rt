@@ -13,7 +13,7 @@ use std::rc::Rc;
 
 /// What a section of a file holds. Many sections share the bytes of one file.
 #[derive(Drop)]
-pub struct FileSection {
+pub(crate) struct FileSection {
     /// The bytes of the whole file.
     pub file: Rc<Vec<u8>>,
     /// Where the section begins in the file, in bytes.

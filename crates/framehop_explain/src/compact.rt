@@ -26,7 +26,7 @@ use std::alloc::{AllocError, Global};
 /// # Errors
 ///
 /// An allocation failed.
-pub fn explain_by_info<D: SectionBytes, A: Sources, P: AllocationPolicy, F>(
+pub(crate) fn explain_by_info<D: SectionBytes, A: Sources, P: AllocationPolicy, F>(
     info: &CompactInfo<D>,
     alloc: Global,
     unwind_context: &mut UnwindContext<P::GimliUnwindContextStorage>,

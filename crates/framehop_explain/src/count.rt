@@ -28,7 +28,7 @@ const RUNTIME_FUNCTION: usize = 12;
 
 /// How much unwind data a module has.
 #[derive(Clone, Copy, Debug, PartialEq, Eq)]
-pub enum UnwindDataCount {
+pub(crate) enum UnwindDataCount {
     /// None that can be used.
     None,
     /// The FDEs of an index.

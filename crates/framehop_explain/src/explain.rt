@@ -48,7 +48,7 @@ pub struct Explanation<'a, D: SectionBytes, A: Arch> {
 /// # Errors
 ///
 /// An allocation failed.
-pub fn explain_frame<'a, D: SectionBytes + Drop, A: Sources, P: AllocationPolicy, F>(
+pub(crate) fn explain_frame<'a, D: SectionBytes + Drop, A: Sources, P: AllocationPolicy, F>(
     unwinder: &'a UnwinderInternal<D, A, P>,
     alloc: Global,
     address: FrameAddress,

@@ -20,7 +20,7 @@ use framehop_dwarf::unwinder::{DwarfUnwinder, find_row};
 use std::alloc::{AllocError, Global};
 
 /// Explains a frame by a section with an index of its FDEs.
-pub fn explain_by_index<D: SectionBytes, A: Unwinding, P: AllocationPolicy, F>(
+pub(crate) fn explain_by_index<D: SectionBytes, A: Unwinding, P: AllocationPolicy, F>(
     frames: &IndexedFrames<D>,
     alloc: Global,
     unwind_context: &mut UnwindContext<P::GimliUnwindContextStorage>,
@@ -71,7 +71,7 @@ where
 }
 
 /// Explains a frame by `.eh_frame` and its table of FDEs.
-pub fn explain_by_header<D: SectionBytes, A: Unwinding, P: AllocationPolicy, F>(
+pub(crate) fn explain_by_header<D: SectionBytes, A: Unwinding, P: AllocationPolicy, F>(
     frames: &HeaderFrames<D>,
     alloc: Global,
     unwind_context: &mut UnwindContext<P::GimliUnwindContextStorage>,
@@ -118,7 +118,7 @@ where
 }
 
 /// Returns the FDE at an offset, and what it tells for a frame.
-pub fn explain_fde<A: Unwinding, P: AllocationPolicy, F>(
+pub(crate) fn explain_fde<A: Unwinding, P: AllocationPolicy, F>(
     unwinder: &mut DwarfUnwinder<'_, A, P::GimliUnwindContextStorage>,
     alloc: Global,
     lookup: Lookup,
@@ -173,7 +173,7 @@ pub fn row_of<S: UnwindContextStorage>(
 }
 
 /// Returns what the FDE at an offset tells for a frame.
-pub fn told_by_fde<A: Unwinding, P: AllocationPolicy, F>(
+pub(crate) fn told_by_fde<A: Unwinding, P: AllocationPolicy, F>(
     unwinder: &mut DwarfUnwinder<'_, A, P::GimliUnwindContextStorage>,
     alloc: Global,
     lookup: Lookup,

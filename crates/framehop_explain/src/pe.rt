@@ -123,7 +123,7 @@ impl Sources for ArchAarch64 {
 }
 
 /// Returns what PE unwind info tells for a frame.
-pub fn told_by_sections<D: SectionBytes, A: Unwinding, F>(
+pub(crate) fn told_by_sections<D: SectionBytes, A: Unwinding, F>(
     sections: PeSections<'_, D>,
     lookup: Lookup,
     regs: A::UnwindRegs,

@@ -48,7 +48,7 @@ impl fmt::Display for Reason {
 
 /// Why call frame information does not unwind a frame.
 #[derive(Clone, Copy)]
-pub struct DwarfReason(pub DwarfUnwinderError);
+pub(crate) struct DwarfReason(pub DwarfUnwinderError);
 
 impl fmt::Display for DwarfReason {
     ghost output = { λ reason. Some (dwarf_text reason.0) };
@@ -114,7 +114,7 @@ impl fmt::Display for ReadReason {
 
 /// Why compact unwind info does not unwind a frame.
 #[derive(Clone, Copy)]
-pub struct CompactReason(pub CompactUnwindInfoUnwinderError);
+pub(crate) struct CompactReason(pub CompactUnwindInfoUnwinderError);
 
 impl fmt::Display for CompactReason {
     ghost output = { λ reason. Some (compact_text reason.0) };
@@ -165,7 +165,7 @@ impl fmt::Display for CompactReason {
 
 /// Why `__unwind_info` can't be read.
 #[derive(Clone, Copy)]
-pub struct CompactReadReason(pub CompactReadError);
+pub(crate) struct CompactReadReason(pub CompactReadError);
 
 impl fmt::Display for CompactReadReason {
     ghost output = { λ reason. Some (compact_read_error_text reason.0) };
@@ -184,7 +184,7 @@ impl fmt::Display for CompactReadReason {
 
 /// Why the unwind info of a PE module does not unwind a frame.
 #[derive(Clone, Copy)]
-pub struct PeReason(pub PeUnwinderError);
+pub(crate) struct PeReason(pub PeUnwinderError);
 
 impl fmt::Display for PeReason {
     ghost output = { λ reason. Some (pe_text reason.0) };

@@ -87,7 +87,7 @@ pub enum Source {
 
 /// The name of a call frame section.
 #[derive(Clone, Copy)]
-pub struct SectionName(pub UnwindSectionType);
+pub(crate) struct SectionName(pub UnwindSectionType);
 
 impl fmt::Display for SectionName {
     ghost output = { λ section. Some (section_name section.0) };

@@ -22,7 +22,7 @@ pub enum Told<R> {
 }
 
 /// Returns what call frame information tells, or that an allocation failed.
-pub fn told_by_dwarf<R>(
+pub(crate) fn told_by_dwarf<R>(
     answer: Result<UnwindResult<R>, DwarfUnwinderError>,
 ) -> Result<Told<R>, AllocError>
     ensures told { IfOk result (λ told. told ≡ of_dwarf answer) }
@@ -40,7 +40,7 @@ pub fn told_by_dwarf<R>(
 }
 
 /// Returns what PE unwind info tells.
-pub fn told_by_pe<R>(answer: Result<UnwindResult<R>, PeUnwinderError>) -> Told<R>
+pub(crate) fn told_by_pe<R>(answer: Result<UnwindResult<R>, PeUnwinderError>) -> Told<R>
     ensures { result ≡ of_pe answer }
 {
     match answer {

@@ -22,7 +22,7 @@ pub enum Uncovered {
 
 /// Returns the last module that starts at or below an address (AVMA), of modules in the order of
 /// their starts.
-pub fn last_module_by<D: SectionBytes + Drop>(
+pub(crate) fn last_module_by<D: SectionBytes + Drop>(
     modules: &[Module<D>],
     address: u64,
 ) -> Option<&Module<D>>

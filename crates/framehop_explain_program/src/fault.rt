@@ -91,7 +91,7 @@ impl Fault {
     }
 
     /// Returns an item of a list that is wrong.
-    pub fn of_item(field: &'static str, item: usize, cause: Cause) -> Self {
+    pub(crate) fn of_item(field: &'static str, item: usize, cause: Cause) -> Self {
         Fault {
             command: None,
             parent: None,
@@ -110,7 +110,7 @@ impl Fault {
     }
 
     /// Returns the same fault, in a command.
-    pub fn in_command(self, command: usize) -> Self {
+    pub(crate) fn in_command(self, command: usize) -> Self {
         Fault {
             command: Some(command),
             ..self

@@ -24,7 +24,7 @@ pub enum Kind {
 pub type Checked = Result<Result<(), Fault>, AllocError>;
 
 /// Returns the first field that is missing or wrong.
-pub fn wrong_field(alloc: Global, value: &Value) -> Result<Option<Fault>, AllocError> {
+pub(crate) fn wrong_field(alloc: Global, value: &Value) -> Result<Option<Fault>, AllocError> {
     if let Err(fault) = check_root(value) {
         return Ok(Some(fault));
     }
@@ -177,7 +177,7 @@ fn check_registers_x86_64(registers: &Value) -> Result<(), Fault> {
 }
 
 /// Tests a field that may be left out.
-pub fn check_optional(object: &Value, field: &'static str, kind: Kind) -> Result<(), Fault> {
+pub(crate) fn check_optional(object: &Value, field: &'static str, kind: Kind) -> Result<(), Fault> {
     match object.get(field) {
         Some(value) => check_value(field, kind, value),
         None => Ok(()),
@@ -281,7 +281,7 @@ fn check_below(object: &Value, field: &'static str, limit: u64) -> Result<(), Fa
 }
 
 /// Returns the first unwinder or cache that a command names and that there is not.
-pub fn wrong_number(value: &Value) -> Option<Fault> {
+pub(crate) fn wrong_number(value: &Value) -> Option<Fault> {
     let caches = number_of(value, "caches").ok()?;
     let mut unwinders: u64 = 0;
     for (i, command) in items_of(value, "commands").ok()?.iter().enumerate() {

@@ -10,7 +10,7 @@ use serde_json::Value;
 use std::alloc::{AllocError, Global};
 
 /// Returns the note of a module that a command adds: what unwind data it has, and what in the input is of no use.
-pub fn module_note(
+pub(crate) fn module_note(
     alloc: Global,
     module: &Module<Vec<u8>>,
     command: &Value,

@@ -106,7 +106,7 @@ fn print_explained<R: Read, W: Write>(
 /// # Errors
 ///
 /// Where `framehop-walk` refuses the input, its refusal, and where the input is wrong; `OutOfMemory`.
-pub fn explain_text(alloc: Global, bytes: &[u8]) -> Result<Vec<u8>, Problem>
+pub(crate) fn explain_text(alloc: Global, bytes: &[u8]) -> Result<Vec<u8>, Problem>
     ensures answers { IfOk result (λ output. IsExplained bytes.now output.items) }
     ensures refused { IfErr result (λ problem. problem.refusal ≢ Refusal.OutOfMemory
         → Answers bytes.now (Err (refusal_text problem.refusal))) }

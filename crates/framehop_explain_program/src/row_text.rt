@@ -10,7 +10,7 @@ use std::alloc::AllocError;
 const REGISTERS: u16 = 256;
 
 /// An architecture whose registers have names in call frame information.
-pub trait RegisterNames {
+pub(crate) trait RegisterNames {
     /// Returns the name of a register, if it is known here.
     fn register_name(register: Register) -> Option<&'static str>;
 }
@@ -39,7 +39,7 @@ impl RegisterNames for ArchAarch64 {
 }
 
 /// Appends a row: how the CFA is found, and each register that has a rule, as `CFA=rsp+16 rbp=c-16 ra=c-8`.
-pub fn push_row<A: RegisterNames, S: UnwindContextStorage>(
+pub(crate) fn push_row<A: RegisterNames, S: UnwindContextStorage>(
     row: &UnwindTableRow<S>,
     out: &mut String,
 ) -> Result<(), AllocError> {

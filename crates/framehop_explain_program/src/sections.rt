@@ -6,7 +6,7 @@ use std::alloc::Global;
 use std::collections::BTreeSet;
 
 /// Tests the sections or segments of a command: their names differ.
-pub fn check_sections(alloc: Global, command: &Value, list: &'static str) -> Checked {
+pub(crate) fn check_sections(alloc: Global, command: &Value, list: &'static str) -> Checked {
     let sections = match items_of(command, list) {
         Ok(sections) => sections,
         Err(fault) => return Ok(Err(fault)),

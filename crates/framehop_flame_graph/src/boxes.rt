@@ -21,7 +21,7 @@ pub struct FrameBox<'a> {
 }
 
 /// Returns the boxes of stacks in order, the root first.
-pub fn boxes_of<'a>(
+pub(crate) fn boxes_of<'a>(
     alloc: Global,
     stacks: &[Stack<'a>],
     total: u64,

@@ -47,7 +47,7 @@ pub fn join<'a>(
 }
 
 /// Returns the boxes that are wide enough to be drawn.
-pub fn shown_changes<'a>(
+pub(crate) fn shown_changes<'a>(
     alloc: Global,
     totals: Totals,
     changes: &[ChangedBox<'a>],
@@ -71,7 +71,7 @@ pub fn shown_changes<'a>(
 }
 
 /// Returns boxes of two runs as an SVG that says how many were left out.
-pub fn draw_changes(
+pub(crate) fn draw_changes(
     alloc: Global,
     drawing: Drawing<'_>,
     totals: Totals,

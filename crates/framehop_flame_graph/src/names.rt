@@ -6,7 +6,7 @@ ghost use Rattle.framehop_flame_graph.specs.Names.{characters_of, is_unprintable
 use std::alloc::{AllocError, Global};
 
 /// Returns the characters of a name, with U+FFFD in the place of what is not UTF-8.
-pub fn characters_of(alloc: Global, name: &[u8]) -> Result<Vec<char>, AllocError>
+pub(crate) fn characters_of(alloc: Global, name: &[u8]) -> Result<Vec<char>, AllocError>
     ensures { IfOk result (λ characters. characters.items ≡ characters_of name.now) }
 {
     let text = String::from_utf8_lossy(alloc, name)?;
@@ -22,7 +22,7 @@ pub fn fitting(width: u64) -> u64
 }
 
 /// Appends a name, of which at most `fit` characters fit, escaped.
-pub fn push_cut(out: &mut String, characters: &[char], fit: usize) -> Result<(), AllocError>
+pub(crate) fn push_cut(out: &mut String, characters: &[char], fit: usize) -> Result<(), AllocError>
     requires { 3 ≤ fit }
     ensures { OnOk result (string_bytes out.new ≡ string_bytes out.old ++ escaped (cut fit characters.now)) }
 {
@@ -36,7 +36,7 @@ pub fn push_cut(out: &mut String, characters: &[char], fit: usize) -> Result<(),
 }
 
 /// Appends characters, escaped.
-pub fn push_escaped(out: &mut String, characters: &[char]) -> Result<(), AllocError>
+pub(crate) fn push_escaped(out: &mut String, characters: &[char]) -> Result<(), AllocError>
     ensures { OnOk result (string_bytes out.new ≡ string_bytes out.old ++ escaped characters.now) }
 {
     for character in characters {
@@ -69,7 +69,7 @@ fn is_unprintable(character: char) -> bool
 
 /// Appends the colour of a frame by its name.
 #[tactic(auto, unfolding(crate::specs::Names::colour_of))]
-pub fn push_colour(alloc: Global, out: &mut String, name: &[u8]) -> Result<(), AllocError>
+pub(crate) fn push_colour(alloc: Global, out: &mut String, name: &[u8]) -> Result<(), AllocError>
     ensures { OnOk result (string_bytes out.new ≡ string_bytes out.old ++ colour_of name.now) }
 {
     let hash = hash_of(name);

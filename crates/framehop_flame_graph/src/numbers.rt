@@ -14,7 +14,7 @@ const WIDTH: u64 = 120_000;
 const LEAST_WIDTH: u64 = 10;
 
 /// Returns the part of a whole that `part` is of `total`, rounded to the nearest, and up from the middle.
-pub fn nearest_share(part: u64, whole: u16, total: u64) -> u64
+pub(crate) fn nearest_share(part: u64, whole: u16, total: u64) -> u64
     requires some { 0 < total }
     requires within { part ≤ total }
     ensures { result ≡ nearest_share part whole total }
@@ -24,7 +24,7 @@ pub fn nearest_share(part: u64, whole: u16, total: u64) -> u64
 }
 
 /// Returns whether a box is wide enough to be drawn.
-pub fn is_shown(total: u64, frame: FrameBox<'_>) -> bool
+pub(crate) fn is_shown(total: u64, frame: FrameBox<'_>) -> bool
     requires some { 0 < total }
     requires within { frame.left + frame.count ≤ total }
     ensures { result ≡ is_shown total (boxed frame.entry) }
@@ -42,7 +42,7 @@ pub fn width_of(total: u64, frame: FrameBox<'_>) -> u64
 }
 
 /// Returns where a count lies in the picture, in hundredths of a pixel.
-pub fn edge(total: u64, count: u64) -> u64
+pub(crate) fn edge(total: u64, count: u64) -> u64
     requires some { 0 < total }
     requires within { count ≤ total }
     ensures edge { result ≡ edge total count }
@@ -62,7 +62,7 @@ pub fn share(part: u64, whole: u64, total: u64) -> u64
 }
 
 /// Appends hundredths as a decimal number.
-pub fn push_hundredths(alloc: Global, out: &mut String, value: u64) -> Result<(), AllocError>
+pub(crate) fn push_hundredths(alloc: Global, out: &mut String, value: u64) -> Result<(), AllocError>
     ensures { OnOk result (string_bytes out.new ≡ string_bytes out.old ++ hundredths value) }
 {
     let (whole, tenth, hundredth) = (value / 100, value / 10 % 10, value % 10);

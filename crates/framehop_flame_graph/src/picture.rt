@@ -48,7 +48,7 @@ fn deepest(boxes: &[FrameBox<'_>]) -> usize
 }
 
 /// Appends what comes before the boxes, in a picture of so many rows beside that of the root.
-pub fn push_head(
+pub(crate) fn push_head(
     alloc: Global,
     out: &mut String,
     title: &[u8],
@@ -157,7 +157,7 @@ fn push_box(
 }
 
 /// Returns how far below the top edge a box of a depth is, in pixels, in a picture of so many rows below the root.
-pub fn top_of(layout: Layout, rows: usize, depth: usize) -> u128
+pub(crate) fn top_of(layout: Layout, rows: usize, depth: usize) -> u128
     requires { depth ≤ rows }
     ensures top { result ≡ top_of layout rows depth }
     ensures fits { result < 2 ^ 100 }
@@ -195,7 +195,7 @@ fn push_title(
 }
 
 /// Appends a count with its unit.
-pub fn push_samples(alloc: Global, out: &mut String, count: u64) -> Result<(), AllocError>
+pub(crate) fn push_samples(alloc: Global, out: &mut String, count: u64) -> Result<(), AllocError>
     ensures { OnOk result (string_bytes out.new ≡ string_bytes out.old ++ samples count) }
 {
     if count == 1 {
@@ -231,7 +231,7 @@ fn push_rectangle(
 
 /// Appends where a box begins and how wide it is.
 #[tactic(auto, unfolding(crate::specs::Picture::span_of))]
-pub fn push_span(
+pub(crate) fn push_span(
     alloc: Global,
     out: &mut String,
     total: u64,
@@ -280,7 +280,7 @@ pub fn push_label(
 }
 
 /// Appends a script, if there is one.
-pub fn push_script(out: &mut String, script: Option<&str>) -> Result<(), AllocError>
+pub(crate) fn push_script(out: &mut String, script: Option<&str>) -> Result<(), AllocError>
     ensures { OnOk result (string_bytes out.new ≡ string_bytes out.old ++ script_of script.entry) }
 {
     match script {

@@ -20,7 +20,7 @@ pub struct Stack<'a> {
 
 /// A stack beside the one before it in order.
 #[derive(Clone, Copy, Drop)]
-pub struct Neighbour {
+pub(crate) struct Neighbour {
     /// How many frames both begin with.
     pub shared: usize,
     /// How often the stack was counted.
@@ -28,7 +28,7 @@ pub struct Neighbour {
 }
 
 /// Returns folded stacks in order of their frames, with how often each was counted in a run before.
-pub fn stacks_in_order<'a>(
+pub(crate) fn stacks_in_order<'a>(
     alloc: Global,
     folded: &'a Folded,
     before: &Folded,
@@ -58,7 +58,7 @@ fn frames_of(alloc: Global, stack: &[u8]) -> Result<Vec<&[u8]>, AllocError>
 }
 
 /// Gives each stack the count that it had before.
-pub fn take_before(stacks: &mut [Stack<'_>])
+pub(crate) fn take_before(stacks: &mut [Stack<'_>])
     ensures { map viewed stacks.new ≡ map viewed_before stacks.old }
 {
     for stack in stacks.iter_mut() {
@@ -67,7 +67,7 @@ pub fn take_before(stacks: &mut [Stack<'_>])
 }
 
 /// Returns each stack beside the one before it.
-pub fn neighbours(alloc: Global, stacks: &[Stack<'_>]) -> Result<Vec<Neighbour>, AllocError>
+pub(crate) fn neighbours(alloc: Global, stacks: &[Stack<'_>]) -> Result<Vec<Neighbour>, AllocError>
     ensures neighbours { IfOk result (λ neighbours. neighbours.items ≡ neighbours_of [] (map viewed stacks.now)) }
     ensures len { IfOk result (λ neighbours. vec_len neighbours ≡ length stacks.now) }
 {

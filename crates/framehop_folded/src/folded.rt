@@ -96,7 +96,7 @@ impl Folded {
     }
 
     /// Adds the stacks of others that are not there, each counted 0 times.
-    pub fn add_stacks(&mut self, alloc: Global, other: &Folded) -> Result<(), AllocError>
+    pub(crate) fn add_stacks(&mut self, alloc: Global, other: &Folded) -> Result<(), AllocError>
         ensures { OnOk result ((stack : List ℕ) → entry_of self.new stack
             ≡ with_stack (entry_of self.old stack) (entry_of other.now stack)) }
     {

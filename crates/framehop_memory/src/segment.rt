@@ -3,7 +3,7 @@ ghost use Rattle.std.specs.Prelude.{◌≡◌, find};
 ghost use Rattle.framehop_memory.specs.Segment.{fits, is_loaded_from, segment_of, svma_in, svma_of, base_of, base_from};
 
 /// The size of a page, in bytes: memory is mapped by whole pages.
-pub const PAGE_SIZE: u64 = 4096;
+pub(crate) const PAGE_SIZE: u64 = 4096;
 
 /// A part of a file that is loaded into memory.
 #[derive(Clone, Copy, Debug, PartialEq, Eq)]

@@ -11,7 +11,7 @@ use framehop_frames::stack::{Stack, StackFrame};
 use std::alloc::{AllocError, Global};
 
 /// Returns where the frames of a chain are, by its addresses from the innermost on.
-pub fn chain_locations(alloc: Global, addresses: &[u64]) -> Result<Vec<FrameAddress>, AllocError>
+pub(crate) fn chain_locations(alloc: Global, addresses: &[u64]) -> Result<Vec<FrameAddress>, AllocError>
     ensures { IfOk result (λ frames. map location_of frames.items ≡ chain_locations addresses.now) }
 {
     let mut frames = Vec::new(alloc);
@@ -44,7 +44,7 @@ fn caller_at(address: u64) -> FrameAddress
 }
 
 /// Returns the stack of a chain, by its addresses from the innermost on. The kernel finds each caller by the frame pointer.
-pub fn chain_stack(alloc: Global, addresses: &[u64]) -> Result<Stack<()>, AllocError>
+pub(crate) fn chain_stack(alloc: Global, addresses: &[u64]) -> Result<Stack<()>, AllocError>
     ensures { IfOk result (λ stack. (map shown_frame stack.frames.items ≡ chain_frames addresses.now) × (stack.end ≡ Root)) }
 {
     let frames = frames_of(alloc, addresses)?;

@@ -30,7 +30,7 @@ pub enum Change {
 
 /// Returns the mapping of a record, if it can be read and is one of a process's code.
 #[tactic(auto, unfolding(crate::specs::Changes::code_mapping_in))]
-pub fn code_mapping<'a>(record: Record<'a>) -> Option<RecordedMapping<'a>>
+pub(crate) fn code_mapping<'a>(record: Record<'a>) -> Option<RecordedMapping<'a>>
     ensures { option_map (λ mapping. mapping_view mapping) result ≡ code_mapping_in (record_view «record».entry) }
 {
     if record.kind != MMAP && record.kind != MMAP2 {
@@ -52,7 +52,7 @@ pub fn code_mapping<'a>(record: Record<'a>) -> Option<RecordedMapping<'a>>
 ///
 /// Those of [`read_mapping`], [`read_command`] and [`read_task`].
 #[tactic(auto, unfolding(crate::specs::Changes::change_in))]
-pub fn change_of(files: &Files, record: Record<'_>) -> Result<Option<Change>, RecordingError>
+pub(crate) fn change_of(files: &Files, record: Record<'_>) -> Result<Option<Change>, RecordingError>
     ensures exact { result ≡ change_in files.now (record_view «record».entry) }
 {
     match record.kind {

@@ -38,7 +38,7 @@ pub struct Choice<'a> {
 
 impl Choice<'_> {
     /// Returns whether all samples are chosen.
-    pub fn is_of_all(&self) -> bool
+    pub(crate) fn is_of_all(&self) -> bool
         ensures { result ≡ is_of_all self.now }
     {
         self.commands.is_empty()

@@ -55,7 +55,7 @@ impl Counts {
     /// # Errors
     ///
     /// `TooManySamples` if a count would be 2^64, and `OutOfMemory`.
-    pub fn add_sample(
+    pub(crate) fn add_sample(
         &mut self,
         alloc: Global,
         end: &[u8],

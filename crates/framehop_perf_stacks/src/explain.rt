@@ -18,7 +18,7 @@ use std::io::Write;
 
 /// Returns a note for each line of the block of a sample, whose stack was copied from the stack pointer on: nothing of its
 /// head, where each frame's caller comes from, why the walk ended, and nothing of the blank line.
-pub fn sample_notes<U: Sampled>(
+pub(crate) fn sample_notes<U: Sampled>(
     alloc: Global,
     unwinder: &U,
     start: Option<Start<U::UnwindRegs>>,
@@ -42,7 +42,7 @@ pub fn sample_notes<U: Sampled>(
 }
 
 /// Writes the block of a stack after its head, with notes under its lines where it is to be explained.
-pub fn write_block<W: Write>(
+pub(crate) fn write_block<W: Write>(
     alloc: Global,
     head: &[u8],
     block: &[u8],

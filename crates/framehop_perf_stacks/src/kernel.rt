@@ -171,7 +171,7 @@ fn push_hexadecimal(
 }
 
 /// Appends the frames of the kernel in a call chain to a folded stack, where they are asked for and nothing is explained.
-pub fn push_kernel_labels(
+pub(crate) fn push_kernel_labels(
     alloc: Global,
     line: &mut Vec<u8>,
     options: Options<'_>,
@@ -194,7 +194,7 @@ pub fn push_kernel_labels(
 
 /// Appends the lines of the frames of the kernel in a call chain to a block, where they are asked for and nothing is
 /// explained.
-pub fn push_kernel_lines(
+pub(crate) fn push_kernel_lines(
     alloc: Global,
     block: &mut Vec<u8>,
     options: Options<'_>,

@@ -61,7 +61,7 @@ pub fn add_map<S: MapSource>(
 ///
 /// Source: Linux, `tools/perf/util/map.c`, `is_anon_memory` and `is_no_dso_memory`; `[anon:` is of names by `prctl`, and
 /// `/memfd:doublemapper` of .NET.
-pub fn is_anonymous(name: &[u8]) -> bool
+pub(crate) fn is_anonymous(name: &[u8]) -> bool
     ensures { result ≡ is_anonymous name.now }
 {
     name.starts_with(b"//anon")
@@ -84,7 +84,7 @@ fn map_name(alloc: Global, pid: u32) -> Result<Vec<u8>, AllocError>
 
 /// Reads a map: a line for each function, with its start and its size in hexadecimal, which may begin with `0x`, and its name,
 /// each after a blank. Lines that are not so are left out.
-pub fn read_perf_map(alloc: Global, text: &[u8]) -> Result<CodeMap, AllocError>
+pub(crate) fn read_perf_map(alloc: Global, text: &[u8]) -> Result<CodeMap, AllocError>
     ensures { IfOk result (IsMapOfText text.now) }
 {
     let lines = lines_of(alloc, text)?;

@@ -103,7 +103,7 @@ impl<U: ProcessUnwinder> Processes<U> {
 
     /// Makes a process ready: one with the modules of its mappings is made, unless there is one. Where those that are ready
     /// have too many mappings together, the others are ready no more.
-    pub fn make_ready<M: ModuleMaker<U>>(
+    pub(crate) fn make_ready<M: ModuleMaker<U>>(
         &mut self,
         alloc: Global,
         maker: &M,

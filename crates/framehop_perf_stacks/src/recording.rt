@@ -61,7 +61,7 @@ struct BuildIdsByName<'a> {
 ///
 /// `Recording` with the first refusal of the header or of the events, and `OutOfMemory`. What refuses a record
 /// is in the field `refusal`.
-pub fn read_recording<'a>(alloc: Global, file: &'a [u8]) -> Result<Recording<'a>, StacksError>
+pub(crate) fn read_recording<'a>(alloc: Global, file: &'a [u8]) -> Result<Recording<'a>, StacksError>
     ensures exact { IfOk result (λ recording. IsReadOf file.entry.now recording) }
     ensures refused { IfErr result (λ error. (error ≡ StacksError.OutOfMemory)
         ⊎ ((refusal : RecordingError) × (events_in file.entry.now ≡ Err refusal) × (error ≡ of_recording refusal))) }
@@ -192,7 +192,7 @@ pub fn sample_of<'a>(
 }
 
 /// Returns whether the samples are of aarch64: where an event records the program counter at its place.
-pub fn is_aarch64(events: &Events<'_>) -> bool
+pub(crate) fn is_aarch64(events: &Events<'_>) -> bool
     ensures { result ≡ are_of_aarch64 (map attribute_view events.now.attributes.items) }
 {
     have_aarch64_pc(events.attributes.as_slice())

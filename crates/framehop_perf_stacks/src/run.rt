@@ -431,7 +431,7 @@ where
     }
 
     /// Takes the records of a recording in, in order, with the bodies that a source gives for its samples.
-    pub fn take_records<M: ModuleMaker<U>, B: SampleSource, W: Write>(
+    pub(crate) fn take_records<M: ModuleMaker<U>, B: SampleSource, W: Write>(
         &mut self,
         alloc: Global,
         recording: &Recording<'_>,

@@ -22,7 +22,7 @@ use std::alloc::{AllocError, Global};
 
 /// Walks the stack of a sample of a process by at most `limit` frames, from the registers with which a walk begins, over
 /// what was copied from the stack pointer on. Returns `None` where the sample has not these registers.
-pub fn walk_sample<U: Sampled>(
+pub(crate) fn walk_sample<U: Sampled>(
     alloc: Global,
     files: &Files,
     process: &Process<U>,

@@ -1,5 +1,5 @@
 //! A process: its mappings, and the unwinder that has their modules.
-ghost use Rattle.std.specs.Prelude.{ℕ, ◌≡◌, ◌+◌, ◌-◌, ◌^◌, ◌<◌, ◌≤◌, [], Some, IfOk, IfErr, OnOk, OnErr, Err, if◌then◌else◌};
+ghost use Rattle.std.specs.Prelude.{ℕ, ◌≡◌, ◌+◌, ◌-◌, ◌^◌, ◌<◌, ◌≤◌, [], Some, IfOk, IfErr, Err, if◌then◌else◌};
 ghost use Rattle.framehop.specs.Modules.{greatest_end};
 ghost use Rattle.framehop_processes.specs.Mappings.{IsInOrder, with_mapping, covers, content, mapped_at, changed_modules};
 ghost use Rattle.framehop_processes.specs.Process.{HasModules, IsDrawn};
@@ -92,11 +92,10 @@ impl<U: ProcessUnwinder> Process<U> {
         Ok(Process { mappings, unwinder })
     }
 
-    /// Maps a part of a file into the process, so that it can be executed, in the place of what it
-    /// overlaps: of an overlapped mapping what lies outside the new one stays. The modules of the
-    /// overlapped ones go, and those of the new one and of what stays are added, as the maker makes
-    /// them. Each takes a generation. Only mappings that can be executed are to be given: a recording
-    /// may have others, too.
+    /// Returns the process with a part of a file mapped into it, so that it can be executed, in the place of what it
+    /// overlaps: of an overlapped mapping what lies outside the new one stays. The modules of the overlapped ones go,
+    /// and those of the new one and of what stays are added, as the maker makes them. Each takes a generation. Only
+    /// mappings that can be executed are to be given: a recording may have others, too.
     ///
     /// # Errors
     ///
@@ -104,44 +103,9 @@ impl<U: ProcessUnwinder> Process<U> {
     /// - `GenerationsExhausted` where fewer generations are left than modules go and come;
     /// - `OutOfMemory`.
     ///
-    /// The process is then as it was, though generations may have been drawn. For that its unwinder is
-    /// copied: `mapped` copies none.
+    /// There is no process any more then, and generations may have been drawn.
     ///
     /// Source: mmap(2), MAP_FIXED; munmap(2).
-    pub fn map<M: ModuleMaker<U>>(
-        &mut self,
-        alloc: Global,
-        maker: &M,
-        mapping: Mapping,
-        generations: &mut Generations,
-    ) -> Result<(), ProcessesError>
-    where
-        U::Module: Drop,
-        requires { HasModules (M.module_of maker.now) self.old }
-        ensures served { HasModules (M.module_of maker.now) self.new }
-        ensures mapped { OnOk result (self.new.mappings ≡ with_mapping mapping self.old.mappings) }
-        ensures by_address { OnOk result ((address : ℕ) → mapped_at address self.new.mappings
-            ≡ (if covers address mapping then Some (content mapping) else mapped_at address self.old.mappings)) }
-        ensures drawn { OnOk result (IsDrawn generations.old self.new.unwinder.generation generations.new) }
-        ensures counted { OnOk result ((generations.new ≡ generations.old + changed_modules mapping self.old.mappings)
-            × (self.new.unwinder.generation + 1 ≡ generations.new)) }
-        ensures kept { OnErr result (self.new ≡ self.old) }
-        ensures empty { mapping.end ≤ mapping.start → (result ≡ Err ProcessesError.EmptyMapping) × (generations.new ≡ generations.old) }
-        ensures not_empty { result ≡ Err ProcessesError.EmptyMapping → mapping.end ≤ mapping.start }
-        ensures exhausted { result ≡ Err ProcessesError.GenerationsExhausted → (generations.new ≡ 2 ^ 64 - 1)
-            × (2 ^ 64 - 1 < generations.old + changed_modules mapping self.old.mappings) }
-        ensures never_back { generations.old ≤ generations.new }
-    {
-        if mapping.end <= mapping.start {
-            return Err(ProcessesError::EmptyMapping);
-        }
-        let process = self.clone()?;
-        *self = process.mapped(alloc, maker, mapping, generations)?;
-        Ok(())
-    }
-
-    /// Returns the process with a part of a file mapped into it, as `map` does it. After an error there is no process
-    /// any more.
     pub fn mapped<M: ModuleMaker<U>>(
         self,
         alloc: Global,

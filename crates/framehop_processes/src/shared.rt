@@ -122,7 +122,7 @@ impl SharedMappings {
     }
 
     /// Returns the mappings as a list, in order of start.
-    pub fn to_list(&self, alloc: Global) -> Result<Vec<Mapping>, AllocError>
+    pub(crate) fn to_list(&self, alloc: Global) -> Result<Vec<Mapping>, AllocError>
         ensures value { IfOk result (λ list. list.items ≡ self.now) }
         ensures ordered { IsInOrder 0 self.now }
     {

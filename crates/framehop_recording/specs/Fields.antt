@@ -95,10 +95,6 @@ FORK_TIME = 16
 abbrev pub LOST_LOST : ℕ
 LOST_LOST = 8
 
--- PERF_RECORD_LOST_SAMPLES: u64 lost
-abbrev pub LOST_SAMPLES_LOST : ℕ
-LOST_SAMPLES_LOST = 0
-
 -- `struct perf_record_header_build_id` of event.h: pid_t pid; u8 build_id[20], size, reserved[3]; char filename[]
 abbrev pub BUILD_ID_PID : ℕ
 BUILD_ID_PID = 0

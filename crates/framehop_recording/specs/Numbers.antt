@@ -24,9 +24,6 @@ PERF_RECORD_SAMPLE = 9
 abbrev pub PERF_RECORD_MMAP2 : ℕ
 PERF_RECORD_MMAP2 = 10
 
-abbrev pub PERF_RECORD_LOST_SAMPLES : ℕ
-PERF_RECORD_LOST_SAMPLES = 13
-
 -- `enum perf_user_event_type`, perf's own kinds of records
 abbrev pub PERF_RECORD_USER_TYPE_START : ℕ
 PERF_RECORD_USER_TYPE_START = 64

@@ -1,9 +1,9 @@
--- Processes and threads, and lost records: PERF_RECORD_COMM, PERF_RECORD_EXIT, PERF_RECORD_FORK, PERF_RECORD_LOST and
--- PERF_RECORD_LOST_SAMPLES of perf_event.h.
+-- Processes and threads, and lost records: PERF_RECORD_COMM, PERF_RECORD_EXIT, PERF_RECORD_FORK and
+-- PERF_RECORD_LOST of perf_event.h.
 use Rattle.std.specs.Prelude.{ℕ, List, drop, Bool, ◌||◌, Result, Ok, Err, ◌==◌, if◌then◌else◌}
 use Rattle.framehop_bytes.specs.Bytes.{◌>>=◌}
-use Rattle.framehop_recording.specs.Numbers.{PERF_RECORD_LOST, PERF_RECORD_COMM, PERF_RECORD_EXIT, PERF_RECORD_FORK, PERF_RECORD_LOST_SAMPLES, PERF_RECORD_MISC_COMM_EXEC, PERF_RECORD_MISC_FORK_EXEC}
-use Rattle.framehop_recording.specs.Fields.{COMM_PID, COMM_TID, COMM_COMM, FORK_PID, FORK_PPID, FORK_TID, FORK_PTID, FORK_TIME, LOST_LOST, LOST_SAMPLES_LOST}
+use Rattle.framehop_recording.specs.Numbers.{PERF_RECORD_LOST, PERF_RECORD_COMM, PERF_RECORD_EXIT, PERF_RECORD_FORK, PERF_RECORD_MISC_COMM_EXEC, PERF_RECORD_MISC_FORK_EXEC}
+use Rattle.framehop_recording.specs.Fields.{COMM_PID, COMM_TID, COMM_COMM, FORK_PID, FORK_PPID, FORK_TID, FORK_PTID, FORK_TIME, LOST_LOST}
 use Rattle.framehop_recording.specs.Bytes.{u32_at, u64_at, has_bit}
 use Rattle.framehop_recording.specs.Records.{RecordView}
 use Rattle.framehop_bytes.specs.String.{before_nul}
@@ -44,10 +44,4 @@ task_at r = if r.kind == PERF_RECORD_FORK || r.kind == PERF_RECORD_EXIT then (do
 unfoldable pub lost_at : RecordView → Result ℕ RecordingError
 lost_at r = if r.kind == PERF_RECORD_LOST then (do
   lost ← u64_at r.body LOST_LOST (ShortRecord r.offset)
-  Ok lost.0) else Err (OtherKind r.offset)
-
--- how many samples the kernel lost, as is said at the end of a recording
-unfoldable pub lost_samples_at : RecordView → Result ℕ RecordingError
-lost_samples_at r = if r.kind == PERF_RECORD_LOST_SAMPLES then (do
-  lost ← u64_at r.body LOST_SAMPLES_LOST (ShortRecord r.offset)
   Ok lost.0) else Err (OtherKind r.offset)

@@ -39,7 +39,7 @@ pub struct Attribute<'a> {
 ///
 /// Source: Linux, `perf.data-file-format.txt`, `perf_header` and `perf_file_attr`.
 #[tactic(auto, unfolding(crate::specs::Attributes::attributes_of))]
-pub fn read_attributes<'a>(
+pub(crate) fn read_attributes<'a>(
     alloc: Global,
     file: &'a [u8],
     header: &Header,

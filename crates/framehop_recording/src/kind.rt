@@ -24,17 +24,14 @@ pub const SAMPLE: u32 = 9;
 /// A file that is mapped into a process, with more about it.
 pub const MMAP2: u32 = 10;
 
-/// Samples that the kernel lost.
-pub const LOST_SAMPLES: u32 = 13;
-
 /// Records of this kind and above are perf's own.
-pub const USER_TYPE_START: u32 = 64;
+pub(crate) const USER_TYPE_START: u32 = 64;
 
 /// Data that is after the record.
-pub const AUXTRACE: u32 = 71;
+pub(crate) const AUXTRACE: u32 = 71;
 
 /// Compressed records.
 pub const COMPRESSED: u32 = 81;
 
 /// Compressed records, padded to eight bytes.
-pub const COMPRESSED2: u32 = 83;
+pub(crate) const COMPRESSED2: u32 = 83;

@@ -1,11 +1,11 @@
 //! Processes and threads that begin, end or run another program, and lost records.
 ghost use Rattle.std.specs.Prelude.{◌≡◌, Ok, Err, MatchResult};
 ghost use Rattle.framehop_recording.specs.Records.{record_view};
-ghost use Rattle.framehop_recording.specs.Tasks.{command_at, command_view, task_at, lost_at, lost_samples_at};
+ghost use Rattle.framehop_recording.specs.Tasks.{command_at, command_view, task_at, lost_at};
 
 use crate::bytes::{read_u32, read_u64};
 use crate::error::RecordingError;
-use crate::kind::{COMM, EXIT, FORK, LOST, LOST_SAMPLES};
+use crate::kind::{COMM, EXIT, FORK, LOST};
 use crate::records::Record;
 use framehop_bytes::bytes::back;
 use framehop_bytes::string::before_nul;
@@ -123,27 +123,5 @@ pub fn read_lost(record: Record<'_>) -> Result<u64, RecordingError>
         return Err(RecordingError::OtherKind { offset });
     }
     let (lost, _) = read_u64(record.body, 8, RecordingError::ShortRecord { offset })?;
-    Ok(lost)
-}
-
-/// Reads how many samples the kernel lost, from the record with which `perf record` says so at the end.
-/// It says again what the records of the kernel say, which [`read_lost`] reads: the numbers of the two
-/// are not to be added.
-///
-/// # Errors
-///
-/// `OtherKind` where the record is no PERF_RECORD_LOST_SAMPLES, and `ShortRecord`.
-///
-/// Source: Linux, `include/uapi/linux/perf_event.h`, PERF_RECORD_LOST_SAMPLES;
-/// `tools/perf/builtin-record.c`, `record__read_lost_samples`.
-#[tactic(auto, unfolding(crate::specs::Tasks::lost_samples_at))]
-pub fn read_lost_samples(record: Record<'_>) -> Result<u64, RecordingError>
-    ensures exact { result ≡ lost_samples_at (record_view «record».entry) }
-{
-    let offset = record.offset;
-    if record.kind != LOST_SAMPLES {
-        return Err(RecordingError::OtherKind { offset });
-    }
-    let (lost, _) = read_u64(record.body, 0, RecordingError::ShortRecord { offset })?;
     Ok(lost)
 }

@@ -1,32 +1,12 @@
 //! The code of trampolines.
-ghost use Rattle.std.specs.Prelude.{◌≡◌, IfOk};
-ghost use Rattle.framehop_signal.specs.Trampoline.{is_trampoline, trampolines_from};
-
-use std::alloc::{AllocError, Global};
+ghost use Rattle.std.specs.Prelude.{◌≡◌};
+ghost use Rattle.framehop_signal.specs.Trampoline.{is_trampoline};
 
 /// `__restore_rt` of x86_64: `mov $15, %rax`, `syscall`.
 const RESTORE_RT: [u8; 9] = [0x48, 0xc7, 0xc0, 0x0f, 0x00, 0x00, 0x00, 0x0f, 0x05];
 
 /// `__kernel_rt_sigreturn` of aarch64: `mov x8, #139`, `svc #0`.
 const KERNEL_RT_SIGRETURN: [u8; 8] = [0x68, 0x11, 0x80, 0xd2, 0x01, 0x00, 0x00, 0xd4];
-
-/// Returns the addresses of the trampolines in code that begins at `start`, in their order. One above the last address
-/// is told as that.
-///
-/// # Errors
-///
-/// An allocation failed.
-pub fn trampolines_in(alloc: Global, start: u64, code: &[u8]) -> Result<Vec<u64>, AllocError>
-    ensures { IfOk result (λ addresses. addresses.items ≡ trampolines_from start 0 code.now) }
-{
-    let mut addresses = Vec::new(alloc);
-    for at in 0..code.len() {
-        if is_trampoline(&code[at..]) {
-            addresses.push(start.saturating_add(at as u64))?;
-        }
-    }
-    Ok(addresses)
-}
 
 /// Returns whether code begins with a trampoline, that of x86_64 or that of aarch64: the handlers of signals return to
 /// it.

@@ -440,7 +440,7 @@ fn read_named<'m, S: FileSource>(
 /// An allocation failed.
 ///
 /// Source of the mark: Linux, `d_path`.
-pub fn given_by<S: FileSource>(
+pub(crate) fn given_by<S: FileSource>(
     source: &S,
     name: &[u8],
     build_id: &[u8],

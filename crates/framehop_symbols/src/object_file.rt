@@ -163,7 +163,7 @@ impl<'m> ObjectFile<'m> {
 
     /// Takes the functions of the file's debug file, which are asked before its own: nothing where it can't be
     /// read, or has not the file's build id. Fails only where an allocation does.
-    pub fn add_debug_names(&mut self, alloc: Global, bytes: &[u8]) -> Result<(), ElfError>
+    pub(crate) fn add_debug_names(&mut self, alloc: Global, bytes: &[u8]) -> Result<(), ElfError>
         ensures kept { (file : List ℕ) → IsKeptOf file [] self.old
             → OnOk result (IsKeptOf file (debug_tables_of self.old.build_id.items bytes.now) self.new) }
         ensures same { self.new.build_id ≡ self.old.build_id }
@@ -185,7 +185,7 @@ impl<'m> ObjectFile<'m> {
     }
 
     /// Returns the name of the file's debug file, by its section `.gnu_debuglink`, or no bytes.
-    pub fn debug_link(&self) -> &[u8]
+    pub(crate) fn debug_link(&self) -> &[u8]
         ensures { result.now ≡ self.now.debug_link.items }
     {
         self.debug_link.as_slice()
@@ -236,7 +236,7 @@ impl<'m> ObjectFile<'m> {
     }
 
     /// Returns the code of the file from an address (SVMA) on, as far as a segment has it.
-    pub fn code_from(&self, svma: u64) -> Option<&[u8]>
+    pub(crate) fn code_from(&self, svma: u64) -> Option<&[u8]>
         ensures { option_map (λ code. code.now) result ≡ code_of_object svma self.now }
     {
         code_from(&self.code, svma)
@@ -500,7 +500,7 @@ fn read_headers<'a>(alloc: Global, file: &'a [u8]) -> Result<Headers<'a>, ElfErr
 }
 
 /// Returns whether a build id that is wanted is another.
-pub fn is_another(wanted: &[u8], found: &[u8]) -> bool
+pub(crate) fn is_another(wanted: &[u8], found: &[u8]) -> bool
     ensures { result ≡ is_another wanted.now found.now }
 {
     !wanted.is_empty() && found != wanted

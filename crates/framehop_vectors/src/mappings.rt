@@ -131,23 +131,22 @@ fn has(process: &ProcessX86_64, expected: &[(u64, u64, u64)], greatest: u64) -> 
         && process.greatest_end() == greatest
 }
 
-/// Maps these addresses: whether the process then has these mappings and this greatest code address.
-fn maps(
+/// Maps these addresses. Returns the process if it then has these mappings and this greatest code address.
+fn mapped(
     alloc: Global,
-    process: &mut ProcessX86_64,
+    process: ProcessX86_64,
     generations: &mut Generations,
     addresses: (u64, u64),
     expected: &[(u64, u64, u64)],
     greatest: u64,
-) -> bool
-    requires { HasModules bare process.old }
-    ensures { HasModules bare process.new }
+) -> Result<ProcessX86_64, Fail>
+    requires { HasModules bare process }
+    ensures { IfOk result (λ mapped. HasModules bare mapped) }
 {
     let (start, end) = addresses;
-    match process.map(alloc, &Bare, mapping(start, end), generations) {
-        Ok(()) => has(process, expected, greatest),
-        Err(_) => false,
-    }
+    let process = process.mapped(alloc, &Bare, mapping(start, end), generations)?;
+    holds(has(&process, expected, greatest))?;
+    Ok(process)
 }
 
 /// The mappings after the end of the first is overlapped, and the second only touched.
@@ -157,69 +156,71 @@ const REPLACED: [(u64, u64, u64); 3] = [
     (0x5000, 0x6000, 0x5000),
 ];
 
-/// Whether mappings are kept sorted, and older ones replaced where a newer one lies.
-fn replaces(alloc: Global, process: &mut ProcessX86_64, generations: &mut Generations) -> bool
-    requires { HasModules bare process.old }
-    ensures { HasModules bare process.new }
+/// Maps over what is mapped: mappings are kept sorted, and older ones replaced where a newer one lies.
+fn replaced(
+    alloc: Global,
+    process: ProcessX86_64,
+    generations: &mut Generations,
+) -> Result<ProcessX86_64, Fail>
+    requires { HasModules bare process }
+    ensures { IfOk result (λ mapped. HasModules bare mapped) }
 {
     let first = [(0x5000, 0x6000, 0x5000)];
     let sorted = [(0x1000, 0x3000, 0x1000), (0x5000, 0x6000, 0x5000)];
-    has(process, &[], 0)
-        && maps(
-            alloc,
-            process,
-            generations,
-            (0x5000, 0x6000),
-            &first,
-            0x6000,
-        )
-        && maps(
-            alloc,
-            process,
-            generations,
-            (0x1000, 0x3000),
-            &sorted,
-            0x6000,
-        )
-        && maps(
-            alloc,
-            process,
-            generations,
-            (0x2000, 0x5000),
-            &REPLACED,
-            0x6000,
-        )
+    let process = mapped(
+        alloc,
+        process,
+        generations,
+        (0x5000, 0x6000),
+        &first,
+        0x6000,
+    )?;
+    let process = mapped(
+        alloc,
+        process,
+        generations,
+        (0x1000, 0x3000),
+        &sorted,
+        0x6000,
+    )?;
+    mapped(
+        alloc,
+        process,
+        generations,
+        (0x2000, 0x5000),
+        &REPLACED,
+        0x6000,
+    )
 }
 
 /// Whether a copy keeps its mappings where all but the start of the first is overlapped.
 fn is_copied(
     alloc: Global,
-    process: &mut ProcessX86_64,
+    process: ProcessX86_64,
     generations: &mut Generations,
-) -> Result<bool, AllocError>
-    requires { HasModules bare process.old }
-    ensures { HasModules bare process.new }
+) -> Result<bool, Fail>
+    requires { HasModules bare process }
 {
     let covered = [(0x1000, 0x1800, 0x1000), (0x1800, 0x8000, 0x1800)];
     let child = process.clone()?;
-    let is_mapped = maps(
+    mapped(
         alloc,
         process,
         generations,
         (0x1800, 0x8000),
         &covered,
         0x8000,
-    );
-    Ok(is_mapped && has(&child, &REPLACED, 0x6000))
+    )?;
+    Ok(has(&child, &REPLACED, 0x6000))
 }
 
 /// Both with a new process.
 fn maps_over(alloc: Global) -> Result<bool, Fail> {
     let mut generations = Generations::new();
-    let mut process: ProcessX86_64 = Process::new(alloc, &mut generations)?;
-    let is_replaced = replaces(alloc, &mut process, &mut generations);
-    let is_copied = is_copied(alloc, &mut process, &mut generations)?;
-    Ok(is_replaced && is_copied)
+    let process: ProcessX86_64 = Process::new(alloc, &mut generations)?;
+    holds(has(&process, &[], 0))?;
+    let process = replaced(alloc, process, &mut generations)?;
+    is_copied(alloc, process, &mut generations)
 }
 
 #[test]
@@ -236,24 +237,24 @@ fn parts(alloc: Global) -> Result<bool, Fail> {
         (0x5000, 0x9000, 0x1000),
     ];
     let mut generations = Generations::starting_at(10);
-    let mut process: ProcessX86_64 = Process::new(alloc, &mut generations)?;
-    let made = &mut process;
-    let is_mapped = maps(
+    let process: ProcessX86_64 = Process::new(alloc, &mut generations)?;
+    let process = mapped(
         alloc,
-        made,
+        process,
         &mut generations,
         (0x1000, 0x9000),
         &whole,
         0x9000,
-    ) && maps(
+    )?;
+    mapped(
         alloc,
-        made,
+        process,
         &mut generations,
         (0x4000, 0x5000),
         &parted,
         0x9000,
-    );
-    Ok(is_mapped && generations.next() == Some(16))
+    )?;
+    Ok(generations.next() == Some(16))
 }
 
 #[test]
@@ -261,36 +262,33 @@ fn keeps_both_sides_of_a_new_mapping(rt: HostRuntime) -> Result<(), Fail> {
     holds(parts(rt.alloc())?)
 }
 
-/// Whether a process of aarch64 is as it was where two generations are left, and three are drawn: one module goes,
-/// and two come.
-fn is_as_it_was(
+/// Why a process of aarch64 can't map these addresses.
+fn refusal(
     alloc: Global,
-    process: &mut Process<UnwinderAarch64<Vec<u8>>>,
+    process: Process<UnwinderAarch64<Vec<u8>>>,
     generations: &mut Generations,
-) -> bool
-    requires { HasModules bare process.old }
-    ensures { HasModules bare process.new }
+    addresses: (u64, u64),
+) -> Option<ProcessesError>
+    requires { HasModules bare process }
 {
+    let (start, end) = addresses;
     process
-        .map(alloc, &Bare, mapping(0x1000, 0x2000), generations)
-        .is_ok()
-        && process.map(alloc, &Bare, mapping(0x1800, 0x2800), generations)
-            == Err(ProcessesError::GenerationsExhausted)
-        && generations.is_exhausted()
-        && are(process.mappings(), &[(0x1000, 0x2000, 0x1000)])
-        && process.unwinder().max_known_code_address() == 0x2000
+        .mapped(alloc, &Bare, mapping(start, end), generations)
+        .err()
 }
 
-/// The same with a new process.
-fn stays(alloc: Global) -> Result<bool, Fail> {
+/// Whether a mapping is refused where two generations are left, and three would be drawn: one module goes, and two come.
+fn is_exhausted(alloc: Global) -> Result<bool, Fail> {
     let mut generations = Generations::starting_at(0xffff_ffff_ffff_fffb);
-    let mut process: Process<UnwinderAarch64<Vec<u8>>> = Process::new(alloc, &mut generations)?;
-    Ok(is_as_it_was(alloc, &mut process, &mut generations))
+    let process: Process<UnwinderAarch64<Vec<u8>>> = Process::new(alloc, &mut generations)?;
+    let process = process.mapped(alloc, &Bare, mapping(0x1000, 0x2000), &mut generations)?;
+    let refusal = refusal(alloc, process, &mut generations, (0x1800, 0x2800));
+    Ok(refusal == Some(ProcessesError::GenerationsExhausted) && generations.is_exhausted())
 }
 
 #[test]
-fn stays_as_it_was_at_the_end_of_the_counter_on_aarch64(rt: HostRuntime) -> Result<(), Fail> {
-    holds(stays(rt.alloc())?)
+fn refuses_a_mapping_at_the_end_of_the_counter_on_aarch64(rt: HostRuntime) -> Result<(), Fail> {
+    holds(is_exhausted(rt.alloc())?)
 }
 
 /// Whether a mapping has at least one address.
@@ -303,12 +301,9 @@ fn has_an_address() -> bool {
 /// Whether one without an address is refused.
 fn refuses_an_empty_one(alloc: Global) -> Result<bool, Fail> {
     let mut generations = Generations::new();
-    let mut process: ProcessX86_64 = Process::new(alloc, &mut generations)?;
-    let empty = Mapping {
-        end: 0x1000,
-        ..mapping(0x1000, 0x2000)
-    };
-    Ok(process.map(alloc, &Bare, empty, &mut generations) == Err(ProcessesError::EmptyMapping))
+    let process: Process<UnwinderAarch64<Vec<u8>>> = Process::new(alloc, &mut generations)?;
+    let refusal = refusal(alloc, process, &mut generations, (0x1000, 0x1000));
+    Ok(refusal == Some(ProcessesError::EmptyMapping))
 }
 
 #[test]

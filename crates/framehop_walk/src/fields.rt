@@ -31,7 +31,7 @@ fn any_bad_member(members: &Map<String, Value>) -> bool
 /// Returns whether a number is in the value, at any depth, that is not whole or does not fit 64 bits.
 #[cycle(has_bad_number)]
 #[inline(always)]
-pub fn has_bad_number(value: &Value) -> bool
+pub(crate) fn has_bad_number(value: &Value) -> bool
     ensures { result ≡ has_bad_number (view value.now) }
 {
     match value {
@@ -95,7 +95,7 @@ pub fn hexadecimal(object: &Value, name: &'static str) -> Result<u64, Refusal>
 
 /// Returns an address that may be left out.
 #[tactic(auto, unfolding(crate::specs::Fields::optional_field_as))]
-pub fn optional_hexadecimal(object: &Value, name: &'static str) -> Result<Option<u64>, Refusal>
+pub(crate) fn optional_hexadecimal(object: &Value, name: &'static str) -> Result<Option<u64>, Refusal>
     ensures { told result ≡ optional_field_as address name.entry.now (view object.now) }
 {
     match object.get(name) {

@@ -34,7 +34,7 @@ fn section_of<'s>(name: &[u8], sections: &'s [Section]) -> Option<&'s Section>
 }
 
 /// Takes out the bytes of the section of that name.
-pub fn take_bytes(name: &[u8], sections: &mut Vec<Section>) -> Option<Vec<u8>>
+pub(crate) fn take_bytes(name: &[u8], sections: &mut Vec<Section>) -> Option<Vec<u8>>
     ensures answer { result ≡ data_of name.now (entries_view sections.old.items) }
     ensures taken { entries_view sections.new.items
         ≡ without_data name.now (entries_view sections.old.items) }

@@ -11,7 +11,7 @@ const DIGITS: &[u8; 16] = b"0123456789abcdef";
 const MAX_DIGITS: usize = 64;
 
 /// Appends a number in lower-case hexadecimal, without leading zeros.
-pub fn print_hexadecimal(number: u64, out: &mut String) -> Result<(), AllocError>
+pub(crate) fn print_hexadecimal(number: u64, out: &mut String) -> Result<(), AllocError>
     ensures { OnOk result (string_bytes out.new ≡ string_bytes out.old ++ hexadecimal_text number) }
 {
     let mut text = [0; MAX_DIGITS];

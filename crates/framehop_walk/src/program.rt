@@ -41,7 +41,7 @@ pub enum Arch {
 
 /// The allocation policy that the input names.
 #[derive(Clone, Copy)]
-pub enum PolicyName {
+pub(crate) enum PolicyName {
     May,
     Must,
 }

@@ -12,7 +12,7 @@ use std::alloc::AllocError;
 
 /// Prints the reply to a command, each line ended by a line feed. `verb` is the command's field
 /// `do`.
-pub fn print_reply<A: Registers>(
+pub(crate) fn print_reply<A: Registers>(
     verb: &str,
     reply: &Reply<A::UnwindRegs>,
     out: &mut String,

@@ -28,7 +28,7 @@ impl<T, A: Allocator> RawBox<T, A> {
     }
 
     /// Puts the `Box` together again.
-    pub fn into_box(self) -> Box<T, A>
+    pub(crate) fn into_box(self) -> Box<T, A>
         ensures { result.value ≡ self.value }
     {
         let RawBox { pointer, alloc } = self;

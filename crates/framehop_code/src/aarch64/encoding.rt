@@ -11,7 +11,7 @@ use Class::{
 
 /// What an instruction does, by its encoding.
 #[derive(Clone, Copy, Debug, PartialEq, Eq)]
-pub enum Class {
+pub(crate) enum Class {
     /// Writes neither `sp` nor `x29`.
     Keep,
     /// Does nothing.
@@ -62,7 +62,7 @@ pub enum Class {
 
 /// The words that have these bits of a mask.
 #[derive(Clone, Copy, Debug, PartialEq, Eq)]
-pub struct Encoding(pub u32, pub u32, pub Class);
+pub(crate) struct Encoding(pub u32, pub u32, pub Class);
 
 /// The encodings; of several that fit the first one counts.
 static ENCODINGS: [Encoding; 65] = [
@@ -171,7 +171,7 @@ static ENCODINGS: [Encoding; 65] = [
 /// Returns what an instruction does, by its word. One of no encoding here writes neither `sp` nor `x29`; of SVE that is
 /// taken to be so.
 #[tactic(auto, unfolding(crate::specs::Aarch64::Encodings::class_of))]
-pub fn class_of(word: u32) -> Class
+pub(crate) fn class_of(word: u32) -> Class
     ensures { result ≡ class_of word }
 {
     match encoding_in(&ENCODINGS, word) {

@@ -27,7 +27,7 @@ pub fn read_instruction(code: &[u8], at: usize) -> Option<Effect>
 
 /// Returns the effect of an instruction, by its word.
 #[tactic(auto, unfolding(crate::specs::Aarch64::Instruction::effect_of))]
-pub fn effect_of(word: u32) -> Effect
+pub(crate) fn effect_of(word: u32) -> Effect
     ensures exact { result ≡ effect_of word }
     ensures size { result.size ≡ 4 }
 {

@@ -441,7 +441,7 @@ static XOP_10: [Opcodes; 2] = [
 
 /// Returns the row of an opcode of one byte, or `None` where 64-bit mode has none.
 #[tactic(auto, unfolding(crate::specs::X86_64::Opcodes::one_byte))]
-pub fn one_byte(opcode: u8) -> Option<Opcodes>
+pub(crate) fn one_byte(opcode: u8) -> Option<Opcodes>
     ensures { result ≡ one_byte opcode }
 {
     if opcode < 0x38 {
@@ -460,7 +460,7 @@ fn from_38(opcode: u8) -> Option<Opcodes>
 
 /// Returns the row of an opcode after 0F, or `None` where there is none.
 #[tactic(auto, unfolding(crate::specs::X86_64::Opcodes::two_byte))]
-pub fn two_byte(opcode: u8) -> Option<Opcodes>
+pub(crate) fn two_byte(opcode: u8) -> Option<Opcodes>
     ensures { result ≡ two_byte opcode }
 {
     row_of(&TWO_BYTE, opcode)
@@ -468,7 +468,7 @@ pub fn two_byte(opcode: u8) -> Option<Opcodes>
 
 /// Returns the row of an opcode after 0F 38.
 #[tactic(auto, unfolding(crate::specs::X86_64::Opcodes::three_byte_38))]
-pub fn three_byte_38(opcode: u8) -> Option<Opcodes>
+pub(crate) fn three_byte_38(opcode: u8) -> Option<Opcodes>
     ensures { result ≡ three_byte_38 opcode }
 {
     row_of(&THREE_BYTE_38, opcode)
@@ -476,7 +476,7 @@ pub fn three_byte_38(opcode: u8) -> Option<Opcodes>
 
 /// Returns the row of an opcode after 0F 3A.
 #[tactic(auto, unfolding(crate::specs::X86_64::Opcodes::three_byte_3a))]
-pub fn three_byte_3a(opcode: u8) -> Option<Opcodes>
+pub(crate) fn three_byte_3a(opcode: u8) -> Option<Opcodes>
     ensures { result ≡ three_byte_3a opcode }
 {
     row_of(&THREE_BYTE_3A, opcode)

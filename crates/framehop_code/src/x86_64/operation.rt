@@ -9,7 +9,7 @@ use crate::effect::{Base, Change, Effect, Flow, plain, with_register};
 
 /// Returns the effect of an instruction, by its parts.
 #[tactic(auto, unfolding(crate::specs::X86_64::Operation::effect_of))]
-pub fn effect_of(parts: Parts) -> Effect
+pub(crate) fn effect_of(parts: Parts) -> Effect
     ensures exact { result ≡ effect_of parts }
     ensures size { result.size ≡ parts.size }
 {

@@ -7,7 +7,7 @@ use framehop_recording::error::RecordingError;
 use framehop_recording::header::{Header, Section, read_header};
 use framehop_recording::kind;
 use framehop_recording::records::{Record, read_records};
-use framehop_recording::tasks::{read_command, read_lost, read_lost_samples};
+use framehop_recording::tasks::{read_command, read_lost};
 use std::alloc::Global;
 use std::test::Fail;
 
@@ -219,12 +219,7 @@ const LOST: [u8; 24] = [
     2, 0, 0, 0, 0, 0, 0x18, 0, 0x15, 0, 0, 0, 0, 0, 0, 0, 10, 0, 0, 0, 0, 0, 0, 0,
 ];
 
-/// A PERF_RECORD_LOST_SAMPLES of ten samples.
-const LOST_SAMPLES: [u8; 16] = [13, 0, 0, 0, 0, 0, 0x10, 0, 10, 0, 0, 0, 0, 0, 0, 0];
-
 #[test]
 fn reads_what_is_lost(rt: HostRuntime) {
     assert!(rt; read_lost(record_of(&LOST)) == Ok(10));
-    let record = record_of(&LOST_SAMPLES);
-    assert!(rt; record.kind == kind::LOST_SAMPLES && read_lost_samples(record) == Ok(10));
 }

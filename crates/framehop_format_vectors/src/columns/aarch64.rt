@@ -1,10 +1,9 @@
 //! Rows of aarch64, by hand.
-use crate::columns::frames::{Section, bytes_of, caller_at, memory_of, registers_of};
+use crate::columns::frames::{NoCaller, Section, bytes_of, caller_at, memory_of, registers_of};
 use framehop_cfi::rule::Register;
 use framehop_cfi::storage::StoreOnStack;
 use framehop_columns::caller::RowRefusal;
 use framehop_columns::convention::Convention;
-use framehop_columns::frame::FrameRefusal;
 use std::test::Fail;
 
 /// An FDE for 0x1000 to 0x1020: the CFA is sp. After 4 bytes it is sp + 16, x30 is at the CFA - 8 and x19 at the CFA - 16.
@@ -75,7 +74,7 @@ fn refuses_the_frame_itself(rt: HostRuntime) -> Result<(), Fail> {
     let regs = registers_of(&REGISTERS, (30, 0x1004));
     let convention = Convention::Aarch64;
     let found = caller_at::<StoreOnStack, _>(alloc, convention, &FRAMES, 0x1000, &regs, &memory)?;
-    let refusal = FrameRefusal::ByRow(RowRefusal::DidNotAdvance);
+    let refusal = NoCaller::ByRow(RowRefusal::DidNotAdvance);
     assert_eq!(rt; found.map(|caller| caller.cfa), Err(refusal));
     Ok(())
 }

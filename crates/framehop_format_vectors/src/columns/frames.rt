@@ -4,11 +4,11 @@ use framehop_cfi::entry::{UnwindSection, UnwindSectionType};
 use framehop_cfi::pointer::BaseAddresses;
 use framehop_cfi::rule::Register;
 use framehop_cfi::storage::UnwindContextStorage;
-use framehop_columns::caller::Caller;
+use framehop_columns::caller::{Caller, RowRefusal, caller_by_row};
 use framehop_columns::convention::Convention;
-use framehop_columns::frame::{FrameRefusal, caller_by_fde};
 use framehop_columns::memory::WordMemory;
 use framehop_columns::register_file::RegisterFile;
+use framehop_dwarf::unwinder::find_row;
 use framehop_memory::memory::{MemoryRange, ProcessMemory};
 use std::alloc::{AllocError, Global};
 
@@ -18,6 +18,17 @@ pub(crate) struct Section {
     pub(crate) bytes: &'static [u8],
     pub(crate) svma: u64,
     pub(crate) fde: u32,
+}
+
+/// Why a frame has no caller by an FDE.
+#[derive(Clone, Copy, Debug, PartialEq, Eq)]
+pub(crate) enum NoCaller {
+    /// No FDE can be read at the offset.
+    NoFde,
+    /// The FDE has no row for the address.
+    NoRow,
+    /// The row gives no caller.
+    ByRow(RowRefusal),
 }
 
 /// Returns the bytes of words.
@@ -64,7 +75,7 @@ pub(crate) fn caller_at<S: UnwindContextStorage, M: WordMemory>(
     address: u32,
     regs: &RegisterFile,
     memory: &M,
-) -> Result<Result<Caller, FrameRefusal>, AllocError> {
+) -> Result<Result<Caller, NoCaller>, AllocError> {
     let bases = BaseAddresses {
         eh_frame: section.svma,
         ..BaseAddresses::default()
@@ -72,15 +83,14 @@ pub(crate) fn caller_at<S: UnwindContextStorage, M: WordMemory>(
     let kind = UnwindSectionType::EhFrame;
     let frames = UnwindSection::new(section.bytes, kind, &bases);
     let mut context = UnwindContext::<S>::new_in(alloc)?;
-    Ok(caller_by_fde(
-        alloc,
-        convention,
-        &frames,
-        0,
-        address,
-        section.fde,
-        &mut context,
-        regs,
-        memory,
-    ))
+    match find_row(&frames, 0, address, section.fde, &mut context) {
+        Ok(true) => {
+            let caller = caller_by_row(
+                alloc, convention, section.bytes, context.row(), regs, memory,
+            );
+            Ok(caller.map_err(|refusal| NoCaller::ByRow(refusal)))
+        }
+        Ok(false) => Ok(Err(NoCaller::NoRow)),
+        Err(_) => Ok(Err(NoCaller::NoFde)),
+    }
 }

@@ -2,13 +2,12 @@
 //! and libc 2.36 each, of Debian, next to one another. The expected values are those that gdb 13.1 prints of the caller's
 //! frame, by `scripts/callers.py`, but for registers that the row doesn't name and that calls may change: gdb keeps their
 //! values, and nothing is known of them.
-use crate::columns::frames::{Section, bytes_of, caller_at, memory_of, registers_of};
+use crate::columns::frames::{NoCaller, Section, bytes_of, caller_at, memory_of, registers_of};
 use framehop_bytes::bytes::front;
 use framehop_cfi::rule::Register;
 use framehop_cfi::storage::{StoreOnHeap, StoreOnStack};
 use framehop_columns::caller::RowRefusal;
 use framehop_columns::convention::Convention;
-use framehop_columns::frame::FrameRefusal;
 use std::test::Fail;
 
 /// `AES_encrypt` of libcrypto: the CFA is by rax, then at a word of the stack, then by rsi.
@@ -284,22 +283,22 @@ fn finds_callers(rt: HostRuntime) -> Result<(), Fail> {
 }
 
 /// A case of `CASES`, how many bytes of the memory are there, a register that isn't known, and the refusal.
-const REFUSED: [(usize, usize, u16, FrameRefusal); 4] = [
+const REFUSED: [(usize, usize, u16, NoCaller); 4] = [
     // the word at rsp + 24 is missing, or rsp
-    (0, 24, 16, FrameRefusal::ByRow(RowRefusal::CfaUnknown)),
-    (0, 176, 7, FrameRefusal::ByRow(RowRefusal::CfaUnknown)),
+    (0, 24, 16, NoCaller::ByRow(RowRefusal::CfaUnknown)),
+    (0, 176, 7, NoCaller::ByRow(RowRefusal::CfaUnknown)),
     // the CFA is known, and the word below it is missing
     (
         0,
         120,
         16,
-        FrameRefusal::ByRow(RowRefusal::ReturnAddressUnknown),
+        NoCaller::ByRow(RowRefusal::ReturnAddressUnknown),
     ),
     (
         1,
         120,
         16,
-        FrameRefusal::ByRow(RowRefusal::ReturnAddressUnknown),
+        NoCaller::ByRow(RowRefusal::ReturnAddressUnknown),
     ),
 ];
 
@@ -347,9 +346,9 @@ fn refuses_where_there_is_no_caller(rt: HostRuntime) -> Result<(), Fail> {
     let regs = registers_of(&REGISTERS, (16, 0x1000));
     let convention = Convention::X86_64;
     let refusals = [
-        (24, 0x1000, FrameRefusal::ByRow(RowRefusal::Outermost)),
-        (24, 0x1020, FrameRefusal::NoRow),
-        (0, 0x1000, FrameRefusal::NoFde),
+        (24, 0x1000, NoCaller::ByRow(RowRefusal::Outermost)),
+        (24, 0x1020, NoCaller::NoRow),
+        (0, 0x1000, NoCaller::NoFde),
     ];
     for (fde, address, refusal) in refusals {
         let section = Section { fde, ..OUTERMOST };

@@ -89,7 +89,7 @@ impl<'a> UnwindInfo<'a> {
 
 /// A page as the index describes it.
 #[derive(Clone, Copy, Debug, PartialEq, Eq)]
-pub struct PageEntry {
+pub(crate) struct PageEntry {
     /// Where its first function begins, a relative address.
     pub page_address: u32,
     /// Where the first function of the next page begins, a relative address.

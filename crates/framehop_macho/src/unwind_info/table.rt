@@ -54,7 +54,7 @@ pub(crate) fn row_of_address<T: Starts>(table: &T, address: u64) -> Option<Row>
 
 /// The entries of the index: rows of an address, a page's offset and a word that is not used here.
 #[derive(Clone, Copy)]
-pub struct IndexEntries<'a> {
+pub(crate) struct IndexEntries<'a> {
     pub bytes: &'a [u8],
 }
 
@@ -72,7 +72,7 @@ impl<'a> Starts for IndexEntries<'a> {
 
 /// The entries of a regular page: rows of an address and an opcode.
 #[derive(Clone, Copy)]
-pub struct RegularEntries<'a> {
+pub(crate) struct RegularEntries<'a> {
     pub bytes: &'a [u8],
 }
 
@@ -90,7 +90,7 @@ impl<'a> Starts for RegularEntries<'a> {
 
 /// The entries of a compressed page: words, whose low 24 bits are added to the page's address.
 #[derive(Clone, Copy)]
-pub struct CompressedEntries<'a> {
+pub(crate) struct CompressedEntries<'a> {
     pub page_address: u32,
     pub bytes: &'a [u8],
 }

@@ -8,7 +8,7 @@ use super::saved_registers::{bp_position, saved_registers};
 
 /// How to unwind from a function.
 #[derive(Clone, Copy, Debug, PartialEq, Eq)]
-pub enum OpcodeX86_64 {
+pub(crate) enum OpcodeX86_64 {
     /// The function has no info.
     Null,
     /// The function has a frame pointer (UNWIND_X86_64_MODE_RBP_FRAME).

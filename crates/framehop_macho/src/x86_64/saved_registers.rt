@@ -6,7 +6,7 @@ use arrayvec::ArrayVec;
 
 /// A register that a frameless function can save.
 #[derive(Clone, Copy, Debug, Default, PartialEq, Eq)]
-pub enum RegisterNameX86_64 {
+pub(crate) enum RegisterNameX86_64 {
     #[default]
     Rbx,
     R12,
@@ -27,7 +27,7 @@ const SAVED_REGISTERS: [RegisterNameX86_64; 6] = [
 
 /// Returns the list of so many distinct registers that has this rank, from 0, in lexicographic
 /// order, or `None` where there is no such list.
-pub fn saved_registers(count: usize, rank: usize) -> Option<ArrayVec<RegisterNameX86_64, 6>>
+pub(crate) fn saved_registers(count: usize, rank: usize) -> Option<ArrayVec<RegisterNameX86_64, 6>>
     ensures exact { MatchOption result
         (saved_registers count rank ≡ None)
         (λ saved. saved_registers count rank ≡ Some saved.items) }
@@ -62,7 +62,7 @@ fn list_count(count: usize, members: usize) -> usize
 }
 
 /// Returns the place of rbp, counted from the end of a list, where the last one has place 0.
-pub fn bp_position(saved: &[RegisterNameX86_64]) -> Option<usize>
+pub(crate) fn bp_position(saved: &[RegisterNameX86_64]) -> Option<usize>
     ensures exact { result ≡ bp_position saved.now }
     ensures within { IfSome result (λ place. place < length saved.now) }
 {

@@ -82,7 +82,7 @@ fn check_chain<D: SectionBytes>(
 
 /// The operations that are left to be undone.
 #[derive_where(Clone, Copy)]
-pub struct UnwindOperations<'s, 'a, D> {
+pub(crate) struct UnwindOperations<'s, 'a, D> {
     sections: &'s PeSections<'a, D>,
     codes: UnwindCodes<'a>,
     base: FrameBase,

@@ -42,7 +42,7 @@ impl<'a> EpilogInstructions<'a> {
     /// Reads what is left of an epilog at the front of the bytes up to the function's end, where
     /// the function has a size in bytes and perhaps a frame register. `None` where they are no
     /// epilog.
-    pub fn parse_sequence(
+    pub(crate) fn parse_sequence(
         bytes: &'a [u8],
         frame_register: Option<Reg>,
         function_size: u32,
@@ -377,7 +377,7 @@ fn is_outside(target: i64, function_size: u32) -> bool
 
 /// Runs what is left of an epilog. Returns the return address (AVMA); the registers are the
 /// caller's but for ip. `MissingStackData` where a word can't be read or an address does not fit.
-pub fn run_epilog<S: UnwindState>(
+pub(crate) fn run_epilog<S: UnwindState>(
     instructions: EpilogInstructions<'_>,
     frame_register: Option<Reg>,
     state: &mut S,

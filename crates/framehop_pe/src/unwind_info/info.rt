@@ -149,7 +149,7 @@ pub struct UnwindCodes<'a> {
 
 impl<'a> UnwindCodes<'a> {
     /// Returns whether these bytes are codes to their end.
-    pub fn are_known(&self) -> bool
+    pub(crate) fn are_known(&self) -> bool
         ensures { result ≡ (read_codes self.now.has_frame_register 0 self.now.bytes.now).1 }
     {
         let mut bytes = self.bytes;

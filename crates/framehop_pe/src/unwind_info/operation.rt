@@ -54,7 +54,7 @@ pub struct UnwindCode {
 /// and returns it with its size in bytes. `None` where it is too short or unknown.
 #[inline]
 #[tactic(auto, unfolding(crate::specs::Codes::unwind_code_at))]
-pub fn read_code(codes: &[u8], has_frame_register: bool) -> Option<(UnwindCode, usize)>
+pub(crate) fn read_code(codes: &[u8], has_frame_register: bool) -> Option<(UnwindCode, usize)>
     ensures exact { result ≡ unwind_code_at has_frame_register codes.now }
     ensures within { IfSome result (λ read. (0 < read.1) × (read.1 ≤ length codes.now)) }
 {

@@ -18,7 +18,7 @@ use std::ops::ControlFlow;
 /// Undoes an operation: the registers are those before the code's instruction ran. Returns the
 /// return address (AVMA) where the operation ends the list, and `None`, with the registers as they
 /// are, where a stack word can't be read or an address does not fit 64 bits.
-pub fn resolve_operation<S: UnwindState>(
+pub(crate) fn resolve_operation<S: UnwindState>(
     framed: FramedOperation,
     state: &mut S,
 ) -> Option<ControlFlow<u64>>
@@ -144,7 +144,7 @@ fn resolve_machine_frame<S: UnwindState>(
 
 /// Undoes operations in their order. Returns the return address (AVMA); the registers are the
 /// caller's but for ip. `MissingStackData` where a word can't be read or an address does not fit.
-pub fn resolve_operations<S: UnwindState, D: SectionBytes>(
+pub(crate) fn resolve_operations<S: UnwindState, D: SectionBytes>(
     operations: UnwindOperations<'_, '_, D>,
     state: &mut S,
 ) -> Result<u64, PeUnwinderError>

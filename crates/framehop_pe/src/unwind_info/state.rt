@@ -49,7 +49,7 @@ pub trait UnwindState {
 }
 
 /// Pops the word at rsp. Where that is not done, the registers stay as they are.
-pub fn pop_word<S: UnwindState>(state: &mut S) -> Result<u64, PeUnwinderError>
+pub(crate) fn pop_word<S: UnwindState>(state: &mut S) -> Result<u64, PeUnwinderError>
     requires { S.can_read state.old }
     ensures callable { S.can_read state.new }
     ensures same_loan { S.loan state.new ≡ S.loan state.old }

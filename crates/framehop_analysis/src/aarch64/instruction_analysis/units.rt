@@ -4,7 +4,7 @@ ghost use Rattle.framehop_analysis.specs.Answer.{IsOnly};
 ghost use Rattle.framehop_analysis.specs.Aarch64.Units.{IsUnitsOf16, IsUnitsOf8};
 
 /// Returns so many bytes in units of 16 bytes, or `None` where they are no such number of 16 bits.
-pub fn units_of_16(bytes: i128) -> Option<u16>
+pub(crate) fn units_of_16(bytes: i128) -> Option<u16>
     ensures { IsOnly (IsUnitsOf16 bytes) result }
 {
     let bytes = u128::try_from(bytes).ok()?;
@@ -15,7 +15,7 @@ pub fn units_of_16(bytes: i128) -> Option<u16>
 }
 
 /// Returns so many bytes in units of 8 bytes, or `None` where they are no such number of 16 bits.
-pub fn units_of_8(bytes: i128) -> Option<i16>
+pub(crate) fn units_of_8(bytes: i128) -> Option<i16>
     ensures { IsOnly (IsUnitsOf8 bytes) result }
 {
     if bytes % 8 != 0 {

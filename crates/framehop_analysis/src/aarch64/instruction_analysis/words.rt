@@ -32,7 +32,7 @@ pub fn has_word(bytes: &[u8], at: usize, word: u32) -> bool
 /// Returns whether the word is `stp` of two 64-bit registers to an address from sp, in any of the three
 /// addressing modes.
 #[inline]
-pub fn is_store(word: u32) -> bool
+pub(crate) fn is_store(word: u32) -> bool
     ensures { result ≡ is_store word }
 {
     (word >> 22) & 0b1011111001 == 0b1010100000
@@ -43,7 +43,7 @@ pub fn is_store(word: u32) -> bool
 /// Returns whether the word is `ldp` of two 64-bit registers from an address from sp, in any of the three
 /// addressing modes.
 #[inline]
-pub fn is_load(word: u32) -> bool
+pub(crate) fn is_load(word: u32) -> bool
     ensures { result ≡ is_load word }
 {
     (word >> 22) & 0b1011111001 == 0b1010100001
@@ -61,7 +61,7 @@ pub fn is_indexed(word: u32) -> bool
 
 /// Returns whether a pair access is post-indexed: it begins at sp as it is, and moves sp afterwards.
 #[inline]
-pub fn is_post_indexed(word: u32) -> bool
+pub(crate) fn is_post_indexed(word: u32) -> bool
     ensures { result ≡ (addressing word == 1) }
 {
     (word >> 23) & 0b11 == 0b01
@@ -69,7 +69,7 @@ pub fn is_post_indexed(word: u32) -> bool
 
 /// Returns the number of the first register of a pair access.
 #[inline]
-pub fn first_register(word: u32) -> u32
+pub(crate) fn first_register(word: u32) -> u32
     ensures { result ≡ first_register word }
 {
     word & 0b11111
@@ -77,7 +77,7 @@ pub fn first_register(word: u32) -> u32
 
 /// Returns the number of the second register of a pair access.
 #[inline]
-pub fn second_register(word: u32) -> u32
+pub(crate) fn second_register(word: u32) -> u32
     ensures { result ≡ second_register word }
 {
     (word >> 10) & 0b11111
@@ -96,7 +96,7 @@ pub fn pair_offset(word: u32) -> i128
 
 /// Returns whether the word is `sub sp, sp, #imm`.
 #[inline]
-pub fn is_sub_sp(word: u32) -> bool
+pub(crate) fn is_sub_sp(word: u32) -> bool
     ensures { result ≡ is_sub_sp word }
 {
     (word >> 23) & 0b111111111 == 0b110100010 && (word >> 5) & 0b11111 == 31 && word & 0b11111 == 31
@@ -104,7 +104,7 @@ pub fn is_sub_sp(word: u32) -> bool
 
 /// Returns whether the word is `add sp, sp, #imm`.
 #[inline]
-pub fn is_add_sp(word: u32) -> bool
+pub(crate) fn is_add_sp(word: u32) -> bool
     ensures { result ≡ is_add_sp word }
 {
     (word >> 23) & 0b111111111 == 0b100100010 && (word >> 5) & 0b11111 == 31 && word & 0b11111 == 31
@@ -112,7 +112,7 @@ pub fn is_add_sp(word: u32) -> bool
 
 /// Returns whether the word is `add x29, sp, #imm`, of which `mov x29, sp` is the case with 0.
 #[inline]
-pub fn is_add_fp(word: u32) -> bool
+pub(crate) fn is_add_fp(word: u32) -> bool
     ensures { result ≡ is_add_fp word }
 {
     (word >> 23) & 0b111111111 == 0b100100010 && (word >> 5) & 0b11111 == 31 && word & 0b11111 == 29
@@ -135,7 +135,7 @@ pub fn immediate(word: u32) -> i128
 
 /// Returns whether the word is `pacibsp`, which signs lr.
 #[inline]
-pub fn is_pacibsp(word: u32) -> bool
+pub(crate) fn is_pacibsp(word: u32) -> bool
     ensures { result ≡ is_pacibsp word }
 {
     word == 0xd503237f
@@ -151,7 +151,7 @@ pub fn is_return(word: u32) -> bool
 
 /// Returns whether the word is `b`.
 #[inline]
-pub fn is_b(word: u32) -> bool
+pub(crate) fn is_b(word: u32) -> bool
     ensures { result ≡ is_b word }
 {
     word >> 26 == 0b000101
@@ -159,7 +159,7 @@ pub fn is_b(word: u32) -> bool
 
 /// Returns whether the word is `br xN`.
 #[inline]
-pub fn is_br(word: u32) -> bool
+pub(crate) fn is_br(word: u32) -> bool
     ensures { result ≡ is_br word }
 {
     word & 0xff_ff_fc_1f == 0xd6_1f_00_00
@@ -167,7 +167,7 @@ pub fn is_br(word: u32) -> bool
 
 /// Returns whether the word is `braa xN, x16`.
 #[inline]
-pub fn is_braa(word: u32) -> bool
+pub(crate) fn is_braa(word: u32) -> bool
     ensures { result ≡ is_braa word }
 {
     word & 0xff_ff_fc_00 == 0xd7_1f_08_00 && word & 0b11111 == 16
@@ -175,7 +175,7 @@ pub fn is_braa(word: u32) -> bool
 
 /// Returns whether the word is `mov x16, #imm`.
 #[inline]
-pub fn is_mov(word: u32) -> bool
+pub(crate) fn is_mov(word: u32) -> bool
     ensures { result ≡ is_mov word }
 {
     (word >> 23) & 0b111000111 == 0b110000101 && word & 0b11111 == 16

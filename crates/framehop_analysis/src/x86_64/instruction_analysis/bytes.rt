@@ -6,7 +6,7 @@ ghost use Rattle.framehop_analysis.specs.X86_64.Bytes.{is_prefix, is_push, is_po
 
 /// Returns the byte at an offset, if the slice has it.
 #[inline]
-pub fn byte_at(bytes: &[u8], at: usize) -> Option<u8>
+pub(crate) fn byte_at(bytes: &[u8], at: usize) -> Option<u8>
     ensures value { result ≡ slice_get bytes.now at }
     ensures within { OnSome result (at < length bytes.now) }
 {
@@ -15,7 +15,7 @@ pub fn byte_at(bytes: &[u8], at: usize) -> Option<u8>
 
 /// Returns whether the byte is one of the REX prefixes `40` and `41`, which `push` and `pop` can have.
 #[inline]
-pub fn is_prefix(byte: u8) -> bool
+pub(crate) fn is_prefix(byte: u8) -> bool
     ensures { result ≡ is_prefix byte }
 {
     byte & 0xfe == 0x40
@@ -23,7 +23,7 @@ pub fn is_prefix(byte: u8) -> bool
 
 /// Returns whether the byte is the opcode of a `push` of a register.
 #[inline]
-pub fn is_push(byte: u8) -> bool
+pub(crate) fn is_push(byte: u8) -> bool
     ensures { result ≡ is_push byte }
 {
     byte & 0xf8 == 0x50
@@ -31,7 +31,7 @@ pub fn is_push(byte: u8) -> bool
 
 /// Returns whether the byte is the opcode of a `pop` of a register.
 #[inline]
-pub fn is_pop_opcode(byte: u8) -> bool
+pub(crate) fn is_pop_opcode(byte: u8) -> bool
     ensures { result ≡ is_pop_opcode byte }
 {
     byte & 0xf8 == 0x58
