@@ -19,8 +19,7 @@ pub mod told;
 pub mod uncovered;
 
 pub use annotate::annotated;
-pub use count::UnwindDataCount;
-pub use explain::{Explanation, Finding, explain_frame};
+pub use explain::{Explanation, Finding};
 pub use kind::UnwindDataKind;
 pub use note::Note;
 pub use notes::{explain_over, note_frame, note_walk};
@@ -29,4 +28,4 @@ pub use rule_text::{DescribeRule, Described};
 pub use source::{CompactSource, PeSource, RowSource, Source};
 pub use text::{frame_text, module_name, unwind_data_text};
 pub use told::Told;
-pub use uncovered::{Uncovered, last_module_by};
+pub use uncovered::Uncovered;

@@ -12,4 +12,4 @@ mod row_text;
 mod sections;
 
 pub use file::{FileProblem, explain_file};
-pub use program::{Problem, explain_program, explain_text, refuse};
+pub use program::{Problem, explain_program, refuse};

@@ -33,6 +33,16 @@ fn reads_a_regular_page(rt: HostRuntime) {
     assert!(rt; unwinder.unwind_frame(0x1000, false) == Ok(rule));
 }
 
+#[test]
+fn hands_on_the_offset_of_an_fde(rt: HostRuntime) {
+    // the same page with the opcode 0x04000018: DWARF, and the FDE at 24
+    let mut info = REGULAR;
+    info[64..].copy_from_slice(&[0x18, 0, 0, 4]);
+    let info = info.as_slice();
+    let unwinder = CompactUnwindInfoUnwinder::<ArchX86_64>::new(info, None, (0, 0), (0, 0));
+    assert!(rt; unwinder.unwind_frame(0x1000, false) == Ok(CuiUnwindResult::NeedDwarf(24)));
+}
+
 /// An offset of a `__stub_helper`, and its rule: that of the shared code, which pushes a word, and then of a stub, which
 /// does so too, and jumps there.
 const HELPERS_X86_64: [(u32, UnwindRuleX86_64); 5] = [

@@ -74,7 +74,7 @@ const EH_FRAME: &str = "1400000000000000017a5200017810011b0c070890010000\
     180000001c000000e0efffff2000000000410e108602430d0600000000000000";
 
 /// A module from 0x1000 to 0x2100 with that `.eh_frame` at 0x2000, and the base 0.
-fn with_an_fde(alloc: Global) -> Result<Module<Vec<u8>>, Fail> {
+pub(crate) fn with_an_fde(alloc: Global) -> Result<Module<Vec<u8>>, Fail> {
     let sections = ExplicitModuleSectionInfo {
         eh_frame_svma: Some(0x2000..0x2038),
         eh_frame: Some(section_bytes(alloc, EH_FRAME)?),
