@@ -138,7 +138,7 @@ fn steps_by_a_clone<P: AllocationPolicy>(alloc: Global) -> Result<bool, Fail> {
             && is_step(replies.get(4), 0x100300)
             && is_step(replies.get(6), 0x100200)
             && is_step(replies.get(7), 0x100300)
-            && is_stats(replies.get(8), [1, 1, 2, 0]),
+            && is_stats(replies.get(8), [2, 2, 0, 0]),
     )
 }
 
