@@ -33,6 +33,12 @@ module _ (source : SourceView) where
   AreReadSince all (wanted ∷ others) old new =
       (between : Files) × IsReadSince all wanted old between × AreReadSince all others between new
 
+  -- the same round after round, from files that were left out on
+  pub data AreReadByRounds (wanted : List (List ℕ × List ℕ)) (left_out : Files) : Files → Type 0 where
+    none : AreReadByRounds wanted left_out left_out
+    more : {all : Bool} {old new : Files} → AreReadByRounds wanted left_out old → AreReadSince all wanted old new
+        → AreReadByRounds wanted left_out new
+
   -- files are added by their names and the build ids that they are to have
   abbrev pub AreAdded : List (List ℕ × List ℕ) → Files → Files → Type 0
   AreAdded [] old new = new ≡ old

@@ -1,12 +1,12 @@
 -- Why the stacks of a core file or a minidump are not written.
-use Rattle.std.specs.Prelude.{◌≡◌, ◌⊎◌, ◌<◌, ◌+◌, ◌-◌, ◌^◌, ℕ, ⊤, List, [], ◌∷◌, Option, Some, None}
+use Rattle.std.specs.Prelude.{◌≡◌, ◌≢◌, ◌⊎◌, ◌<◌, ◌+◌, ◌-◌, ◌^◌, ℕ, ⊤, List, [], ◌∷◌, Option, Some, None}
 use Rattle.framehop_processes.specs.Mappings.{changed_modules}
 use Rattle.framehop_processes.specs.declared.mapping.Mapping.{Mapping}
 use Rattle.framehop_symbols.specs.Source.{SourceView}
 use Rattle.framehop_symbols.specs.declared.files.Files.{Files}
 use Rattle.framehop_dump_stacks.specs.Dump.{MappedCodeView, DumpView}
 use Rattle.framehop_dump_stacks.specs.Minidump.{LoadedView, AreModuleFiles, dump_with}
-use Rattle.framehop_dump_stacks.specs.Modules.{AreFilesOf, mapping_in, mapped_by}
+use Rattle.framehop_dump_stacks.specs.Modules.{AreFilesAsked, mapping_in, mapped_by}
 use Rattle.framehop_dump_stacks.specs.declared.error.DumpStacksError.{DumpStacksError}
 use Rattle.framehop_dump_stacks.specs.declared.error.DumpStacksError.TheVariants.{Core, Minidump, OutOfMemory, GenerationsExhausted, EmptyMapping, CannotWrite}
 
@@ -35,10 +35,10 @@ MayEnd drawn EmptyMapping = ⊥
 MayEnd drawn (Core refusal) = ⊥
 MayEnd drawn (Minidump refusal) = ⊥
 
--- the same of a dump, by its files
-abbrev pub MayEndWith : SourceView → DumpView → DumpStacksError → Type 0
-MayEndWith source dump error = (error ≡ OutOfMemory)
-    ⊎ ((files : Files) × AreFilesOf source dump files × MayEnd (drawn_in dump files) error)
+-- the same of a dump, by those of its files that are read, where nothing is written
+abbrev pub MayEndUnwritten : SourceView → DumpView → DumpStacksError → Type 0
+MayEndUnwritten source dump error = (error ≡ OutOfMemory)
+    ⊎ ((files : Files) × AreFilesAsked source dump files × (error ≢ CannotWrite) × MayEnd (drawn_in dump files) error)
 
 -- the same of a minidump, by the files of its modules
 abbrev pub MayEndWithModules : SourceView → DumpView × List LoadedView → DumpStacksError → Type 0

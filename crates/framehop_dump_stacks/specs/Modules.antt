@@ -14,7 +14,7 @@ use Rattle.framehop_symbols.specs.Source.{SourceView}
 use Rattle.framehop_symbols.specs.declared.object_file.ObjectFile.{ObjectFile}
 use Rattle.framehop_symbols.specs.declared.files.Files.{Files}
 use Rattle.framehop_symbols.specs.declared.files.NamedFile.{NamedFile}
-use Rattle.framehop_dump_stacks.specs.Added.{AreFiles, AreLeftOut, AreReadSince}
+use Rattle.framehop_dump_stacks.specs.Added.{AreFiles, AreLeftOut, AreReadSince, AreReadByRounds}
 use Rattle.framehop_dump_stacks.specs.Dump.{MappedCodeView, DumpView, head_of}
 use Rattle.framehop_dump_stacks.specs.Image.{sections_of, sections_in}
 
@@ -30,6 +30,12 @@ AreLeftOutOf dump files = AreLeftOut (map (λ code. code.path) dump.code) files
 abbrev pub AreReadOf : SourceView → Bool → DumpView → Files → Files → Type 0
 AreReadOf source all dump old new =
     AreReadSince source all (map (λ code. (code.path, code.build_id)) dump.code) old new
+
+-- the files of a dump, of which some have been read, one round after another, and the others are left out
+abbrev pub AreFilesAsked : SourceView → DumpView → Files → Type 0
+AreFilesAsked source dump files =
+    (left_out : Files) × AreLeftOutOf dump left_out
+    × AreReadByRounds source (map (λ code. (code.path, code.build_id)) dump.code) left_out files
 
 -- where the stated address 0 of a file is, by its segments
 abbrev pub base_by : List Segment → MappedCodeView → Option ℕ

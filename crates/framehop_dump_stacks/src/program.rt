@@ -1,42 +1,128 @@
 //! From the bytes of a core file or a minidump to the stacks of its threads.
-ghost use Rattle.std.specs.Prelude.{◌≡◌, ◌⊎◌, List, ℕ, map, Ok, Err, IfOk, IfErr, OnOk};
+ghost use Rattle.std.specs.Prelude.{◌≡◌, ◌≢◌, ◌⊎◌, List, ℕ, map, Ok, Err, IfOk, IfErr, IfSome, OnOk};
 ghost use Rattle.std.specs.Io.KnownBytes.{Appends};
-ghost use Rattle.framehop_coredump.specs.declared.error.CoreFileError.{CoreFileError};
 ghost use Rattle.framehop_minidump.specs.declared.error.MinidumpError.{MinidumpError};
 ghost use Rattle.framehop_symbols.specs.declared.files.Files.{Files};
-ghost use Rattle.framehop_dump_stacks.specs.CoreDump.{core_dump_of};
 ghost use Rattle.framehop_dump_stacks.specs.Dump.{DumpView, dump_view};
-ghost use Rattle.framehop_dump_stacks.specs.Ended.{drawn_in, MayEnd, MayEndWith, MayEndWithModules};
+ghost use Rattle.framehop_dump_stacks.specs.Ended.{drawn_in, MayEnd, MayEndUnwritten, MayEndWithModules};
 ghost use Rattle.framehop_dump_stacks.specs.Minidump.{LoadedView, loaded_view, minidump_of, AreModuleFiles, dump_with};
-ghost use Rattle.framehop_dump_stacks.specs.Modules.{AreFilesOf, mappings_in};
+ghost use Rattle.framehop_dump_stacks.specs.Modules.{AreFilesAsked, mappings_in};
 ghost use Rattle.framehop_dump_stacks.specs.Noted.{AreThreadNotes, AreNotesBy, AreNotesOf};
 ghost use Rattle.framehop_dump_stacks.specs.Printed.{blocks_of, text_by, text_of};
 ghost use Rattle.framehop_dump_stacks.specs.Problems.{IsSaid};
-ghost use Rattle.framehop_dump_stacks.specs.Refusal.{of_core_file, of_minidump};
+ghost use Rattle.framehop_dump_stacks.specs.Refusal.{of_minidump};
 ghost use Rattle.framehop_frames.specs.Explained.{IsShown};
 
-use crate::core_dump::read_core_dump;
 use crate::dump::Dump;
 use crate::error::DumpStacksError;
 use crate::explain::explained_text;
 use crate::frame_headers::headers_of;
 use crate::machine::Dumped;
 use crate::minidump::{LoadedModule, dump_in, read_module_files, read_parts, with_code};
-use crate::modules::{DumpModules, bare_module, map_files, read_files};
+use crate::modules::{
+    DumpModules, bare_module, leave_out_files, map_files, read_files_asked_for,
+};
 use crate::problems::said_text;
 use crate::text::threads_text;
 use framehop::aarch64::UnwinderAarch64;
 use framehop::cache::MayAllocateDuringUnwind;
 use framehop::x86_64::UnwinderX86_64;
 use framehop_coredump::core_file::Machine;
+use framehop_memory::left_out::LeftOut;
 use framehop_processes::{ModuleMaker, Process};
 use framehop_symbols::files::{FileSource, Files};
 use framehop_symbols::mapped_bytes::MappedBytes;
 use std::alloc::{AllocError, Global};
 use std::io::Write;
 
-/// Writes the stacks of the threads of a minidump to `out`, and then to `err` what was missing, as [`write_core_stacks`]
-/// does of a core file.
+/// How often those of the mapped files are read that were asked for, before all are.
+const ROUNDS_OF_FILES: u32 = 8;
+
+/// What is written of a core file: the stacks of its threads, and what was missing.
+#[derive(Drop)]
+pub struct Written {
+    pub out: Vec<u8>,
+    pub said: Vec<u8>,
+}
+
+/// Returns what is written of a core file that was read: the stacks of its threads, and what was missing, of the mapped files
+/// that the stacks ask for, as [`write_dump_stacks`] does. The others are not read. `None` where memory that was left out was
+/// asked for: all is to be made again with it.
+///
+/// # Errors
+///
+/// `OutOfMemory` and `GenerationsExhausted`.
+pub fn core_stacks<'m, S: FileSource>(
+    alloc: Global,
+    dump: &Dump<'m>,
+    left_out: &LeftOut,
+    source: &S,
+    limit: u32,
+    explain: bool,
+) -> Result<Option<Written>, DumpStacksError>
+    ensures printed { IfOk result (λ written. IfSome written (λ written.
+        (files : Files) × AreFilesAsked (S.source source.now) (dump_view dump.now) files
+        × IsShown explain (AreNotesOf limit (dump_view dump.now) files) (text_of limit (dump_view dump.now) files) written.out.items
+        × IsSaid (dump_view dump.now) files (mappings_in (dump_view dump.now) files) written.said.items)) }
+    ensures refused { IfErr result (MayEndUnwritten (S.source source.now) (dump_view dump.now)) }
+{
+    let mut files = leave_out_files(alloc, dump)?;
+    for _round in 0..ROUNDS_OF_FILES {
+        let Some(written) = stacks_by(alloc, dump, left_out, &files, limit, explain)? else {
+            return Ok(None);
+        };
+        if !read_files_asked_for(alloc, dump, source, false, &mut files)? {
+            return Ok(Some(written));
+        }
+    }
+    read_files_asked_for(alloc, dump, source, true, &mut files)?;
+    stacks_by(alloc, dump, left_out, &files, limit, explain)
+}
+
+/// Returns what is written of a dump by its files as they are, or `None` where memory that was left out was asked for.
+fn stacks_by<'m>(
+    alloc: Global,
+    dump: &Dump<'m>,
+    left_out: &LeftOut,
+    files: &Files<'m>,
+    limit: u32,
+    explain: bool,
+) -> Result<Option<Written>, DumpStacksError>
+    ensures printed { IfOk result (λ written. IfSome written (λ written.
+        IsShown explain (AreNotesOf limit (dump_view dump.now) files.now) (text_of limit (dump_view dump.now) files.now) written.out.items
+        × IsSaid (dump_view dump.now) files.now (mappings_in (dump_view dump.now) files.now) written.said.items)) }
+    ensures refused { IfErr result (λ error. (error ≢ DumpStacksError.CannotWrite) × MayEnd (drawn_in (dump_view dump.now) files.now) error) }
+{
+    let written = written_by(alloc, dump, files, limit, explain);
+    if !left_out.asked(alloc)?.is_empty() {
+        return Ok(None);
+    }
+    Ok(Some(written?))
+}
+
+/// Returns what is written of a dump by its files as they are. A write into memory fails only where memory runs out.
+fn written_by<'m>(
+    alloc: Global,
+    dump: &Dump<'m>,
+    files: &Files<'m>,
+    limit: u32,
+    explain: bool,
+) -> Result<Written, DumpStacksError>
+    ensures printed { IfOk result (λ written.
+        IsShown explain (AreNotesOf limit (dump_view dump.now) files.now) (text_of limit (dump_view dump.now) files.now) written.out.items
+        × IsSaid (dump_view dump.now) files.now (mappings_in (dump_view dump.now) files.now) written.said.items) }
+    ensures refused { IfErr result (λ error. (error ≢ DumpStacksError.CannotWrite) × MayEnd (drawn_in (dump_view dump.now) files.now) error) }
+{
+    let (mut out, mut said) = (Vec::new(alloc), Vec::new(alloc));
+    match write_dump_stacks(alloc, dump, files, limit, explain, &mut out, &mut said) {
+        Ok(()) => Ok(Written { out, said }),
+        Err(DumpStacksError::CannotWrite) => Err(DumpStacksError::OutOfMemory),
+        Err(error) => Err(error),
+    }
+}
+
+/// Writes the stacks of the threads of a minidump to `out`, and then to `err` what was missing: files that were not read, or
+/// lack unwind data or names. Where they are to be explained, a note under each frame says what its caller came from.
 ///
 /// # Errors
 ///
@@ -95,8 +181,9 @@ fn write_minidump<'a, S: FileSource, W: Write, E: Write>(
     Ok(())
 }
 
-/// Writes the stacks of the threads of a dump to `out`, and then to `err` what was missing, as [`write_core_stacks`] does, by
-/// files of which some may be left out: it takes such a file for one of which nothing was read.
+/// Writes the stacks of the threads of a dump to `out`, and then to `err` what was missing: bytes of a core file itself, and
+/// files that were not read, or lack unwind data or names. Where they are to be explained, a note under each frame says what
+/// its caller came from. A file that is left out is taken for one of which nothing was read.
 ///
 /// # Errors
 ///

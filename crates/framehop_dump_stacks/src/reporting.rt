@@ -1,24 +1,22 @@
 //! From the bytes of a core file or a minidump to a report of its stacks.
 ghost use Rattle.std.specs.Prelude.{◌≡◌, ◌⊎◌, List, ℕ, map, Ok, Err, IfOk, IfErr, OnOk};
 ghost use Rattle.std.specs.Io.KnownBytes.{Appends};
-ghost use Rattle.framehop_coredump.specs.declared.error.CoreFileError.{CoreFileError};
 ghost use Rattle.framehop_minidump.specs.declared.error.MinidumpError.{MinidumpError};
 ghost use Rattle.framehop_symbols.specs.declared.files.Files.{Files};
-ghost use Rattle.framehop_dump_stacks.specs.CoreDump.{core_dump_of};
 ghost use Rattle.framehop_dump_stacks.specs.Dump.{DumpView, dump_view};
+ghost use Rattle.framehop_dump_stacks.specs.Ended.{drawn_in, MayEnd, MayEndWithModules};
 ghost use Rattle.framehop_dump_stacks.specs.Minidump.{LoadedView, loaded_view, minidump_of, AreModuleFiles, dump_with};
-ghost use Rattle.framehop_dump_stacks.specs.Modules.{AreFilesOf, mappings_in};
+ghost use Rattle.framehop_dump_stacks.specs.Modules.{mappings_in};
 ghost use Rattle.framehop_dump_stacks.specs.Problems.{IsSaid};
-ghost use Rattle.framehop_dump_stacks.specs.Refusal.{of_core_file, of_minidump};
+ghost use Rattle.framehop_dump_stacks.specs.Refusal.{of_minidump};
 ghost use Rattle.framehop_dump_stacks.specs.Report.{stacks_by, stacks_in};
 
-use crate::core_dump::read_core_dump;
 use crate::dump::Dump;
 use crate::error::DumpStacksError;
 use crate::frame_headers::headers_of;
 use crate::machine::Dumped;
 use crate::minidump::{LoadedModule, dump_in, read_module_files, read_parts, with_code};
-use crate::modules::{DumpModules, bare_module, map_files, read_files};
+use crate::modules::{DumpModules, bare_module, map_files};
 use crate::problems::said_text;
 use crate::report::{Report, stacks_of};
 use framehop::aarch64::UnwinderAarch64;
@@ -55,6 +53,8 @@ pub fn report_minidump_stacks<S: FileSource, R: Report, W: Write, E: Write>(
         × Appends (E.contents err.old) (E.contents err.new) said))) }
     ensures refused { (refusal : MinidumpError) → minidump_of file.now ≡ Err refusal → IfErr result (λ error.
         (error ≡ of_minidump refusal) ⊎ (error ≡ DumpStacksError.OutOfMemory)) }
+    ensures read { (minidump : DumpView × List LoadedView) → minidump_of file.now ≡ Ok minidump
+        → IfErr result (MayEndWithModules (S.source source.now) minidump) }
 {
     let parts = read_parts(alloc, file)?;
     let dump = dump_in(alloc, file, &parts)?;
@@ -74,13 +74,14 @@ fn report_minidump<'a, S: FileSource, R: Report, W: Write, E: Write>(
     out: &mut W,
     err: &mut E,
 ) -> Result<(), DumpStacksError>
-    ensures { OnOk result (let minidump : DumpView × List LoadedView = (dump_view dump.entry, map loaded_view modules.entry.now) in
+    ensures printed { OnOk result (let minidump : DumpView × List LoadedView = (dump_view dump.entry, map loaded_view modules.entry.now) in
         (files : Files) × AreModuleFiles (S.source source.now) minidump.1 files
         × ((text : List ℕ) × R.makes report.now (dump_with minidump files) files
         (mappings_in (dump_with minidump files) files) (stacks_in limit (dump_with minidump files) files) text
         × Appends (W.contents out.old) (W.contents out.new) text)
         × ((said : List ℕ) × IsSaid (dump_with minidump files) files (mappings_in (dump_with minidump files) files) said
         × Appends (E.contents err.old) (E.contents err.new) said)) }
+    ensures refused { IfErr result (MayEndWithModules (S.source source.now) (dump_view dump.entry, map loaded_view modules.entry.now)) }
 {
     let files = read_module_files(alloc, modules, source)?;
     let whole = with_code(alloc, dump, &files, modules)?;
@@ -88,8 +89,8 @@ fn report_minidump<'a, S: FileSource, R: Report, W: Write, E: Write>(
     Ok(())
 }
 
-/// Writes a report of the stacks of a dump to `out`, and then to `err` what was missing, as [`report_core_stacks`] does, by
-/// files of which some may be left out: it takes such a file for one of which nothing was read.
+/// Writes a report of the stacks of a dump to `out`, and then to `err` what was missing, as
+/// [`crate::program::write_dump_stacks`] does. A file that is left out is taken for one of which nothing was read.
 ///
 /// # Errors
 ///
@@ -109,6 +110,7 @@ pub fn report_dump_stacks<'m, R: Report, W: Write, E: Write>(
     ensures said { OnOk result ((said : List ℕ)
         × IsSaid (dump_view dump.now) files.now (mappings_in (dump_view dump.now) files.now) said
         × Appends (E.contents err.old) (E.contents err.new) said) }
+    ensures refused { IfErr result (MayEnd (drawn_in (dump_view dump.now) files.now)) }
 {
     let headers = headers_of(alloc, dump)?;
     let bare = bare_module(alloc)?;
@@ -156,6 +158,7 @@ where
     ensures said { OnOk result ((said : List ℕ)
         × IsSaid (dump_view modules.now.dump.now) modules.now.files.now (mappings_in (dump_view modules.now.dump.now) modules.now.files.now) said
         × Appends (E.contents err.old) (E.contents err.new) said) }
+    ensures refused { IfErr result (MayEnd (drawn_in (dump_view modules.now.dump.now) modules.now.files.now)) }
 {
     let process: Process<U> = map_files(alloc, maker, modules.dump, modules.files)?;
     let stacks = stacks_of(alloc, modules.dump, modules.files, &process, limit)?;

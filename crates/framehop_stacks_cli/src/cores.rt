@@ -9,21 +9,17 @@ use framehop_dump_json::json::Json;
 use framehop_dump_stacks::core_dump::{read_core_dump, read_core_dump_over};
 use framehop_dump_stacks::dump::Dump;
 use framehop_dump_stacks::error::DumpStacksError;
-use framehop_dump_stacks::modules::{leave_out_files, read_files, read_files_asked_for};
-use framehop_dump_stacks::program::write_dump_stacks;
+use framehop_dump_stacks::modules::read_files;
+use framehop_dump_stacks::program::{Written, core_stacks};
 use framehop_dump_stacks::reporting::report_dump_stacks;
 use framehop_memory::left_out::LeftOut;
 use framehop_memory::memory::ProcessMemory;
 use framehop_perf_stacks::run::Options;
-use framehop_symbols::files::Files;
 use std::io;
 use std::io::Write;
 
 /// How often more of a core file is read before it is read whole.
 const MOST_ROUNDS: u32 = 16;
-
-/// How often those of the mapped files are read that were asked for, before all are.
-const ROUNDS_OF_FILES: u32 = 8;
 
 /// What came of a round over the parts that were read of a core file.
 #[derive(Drop)]
@@ -36,13 +32,8 @@ enum Round {
     Refused,
 }
 
-/// What is written of a core file.
-#[derive(Drop)]
-struct Written {
-    out: Vec<u8>,
-    said: Vec<u8>,
-    ended: std::result::Result<(), DumpStacksError>,
-}
+/// What is written of a core file, or why nothing is; `None` where more memory was asked for.
+type Stacks = std::result::Result<Option<Written>, DumpStacksError>;
 
 /// Prints the stacks of the threads of a core file, of which the headers and the notes are read and the memory that is asked
 /// for, and of the files that were mapped those that are asked for. Where more is asked for than was read, nothing is printed, and all is done
@@ -98,12 +89,10 @@ fn print_read_core(
     if !asked.is_empty() {
         return Ok(Round::Asked(asked));
     }
-    let written = write_stacks(rt, &dump, &left_out, disk, options, form)?;
-    let asked = left_out.asked(alloc)?;
-    if !asked.is_empty() {
-        return Ok(Round::Asked(asked));
+    match stacks(rt, &dump, &left_out, disk, options, form) {
+        Ok(None) => Ok(Round::Asked(left_out.asked(alloc)?)),
+        stacks => Ok(Round::Printed(print_stacks(rt, path, &stacks)?)),
     }
-    Ok(Round::Printed(print_written(rt, path, &written)?))
 }
 
 /// Prints the stacks of the threads of a core file, by its bytes. Of the files that were mapped those are read that are asked
@@ -122,67 +111,45 @@ pub fn print_core(
         Err(error) => return status_of(rt, path, Err(error.into())),
     };
     let left_out = LeftOut::new(alloc, &[])?;
-    let written = write_stacks(rt, &dump, &left_out, disk, options, form)?;
-    print_written(rt, path, &written)
+    let stacks = stacks(rt, &dump, &left_out, disk, options, form);
+    print_stacks(rt, path, &stacks)
 }
 
-/// Returns what is written of the stacks of a core file that was read. Of the files that were mapped those are read that are
-/// asked for, and all is made again with them, unless memory is asked for that was left out. JSON tells of all files.
-fn write_stacks(
+/// Returns what is written of a core file that was read. JSON tells of all its files.
+fn stacks(
     rt: &HostRuntime,
     dump: &Dump<'_>,
     left_out: &LeftOut,
     disk: &Disk<'_>,
     options: Options<'_>,
     form: Form<'_>,
-) -> Result<Written> {
-    let alloc = rt.alloc();
-    if matches!(form, Form::Json) {
-        let files = read_files(alloc, dump, disk)?;
-        return Ok(write_stacks_by(rt, dump, &files, options, form));
-    }
-    let mut files = leave_out_files(alloc, dump)?;
-    for round in 0..=ROUNDS_OF_FILES {
-        let written = write_stacks_by(rt, dump, &files, options, form);
-        let all = round == ROUNDS_OF_FILES;
-        if !left_out.asked(alloc)?.is_empty()
-            || !read_files_asked_for(alloc, dump, disk, all, &mut files)?
-        {
-            return Ok(written);
-        }
-    }
-    Ok(write_stacks_by(rt, dump, &files, options, form))
-}
-
-/// Returns what is written of the stacks of a core file that was read, by these files, into memory, where a write fails only
-/// where memory runs out.
-fn write_stacks_by<'m>(
-    rt: &HostRuntime,
-    dump: &Dump<'m>,
-    files: &Files<'m>,
-    options: Options<'_>,
-    form: Form<'_>,
-) -> Written {
+) -> Stacks {
     let alloc = rt.alloc();
     let Options { limit, explain, .. } = options;
+    if !matches!(form, Form::Json) {
+        return core_stacks(alloc, dump, left_out, disk, limit, explain);
+    }
+    let files = read_files(alloc, dump, disk)?;
     let (mut out, mut said) = (Vec::new(alloc), Vec::new(alloc));
-    let ended = match form {
-        Form::Json => report_dump_stacks(alloc, dump, files, limit, &Json, &mut out, &mut said),
-        _ => write_dump_stacks(alloc, dump, files, limit, explain, &mut out, &mut said),
-    };
-    let ended = match ended {
-        Err(DumpStacksError::CannotWrite) => Err(DumpStacksError::OutOfMemory),
-        ended => ended,
-    };
-    Written { out, said, ended }
+    report_dump_stacks(alloc, dump, &files, limit, &Json, &mut out, &mut said)?;
+    if left_out.asked(alloc)?.is_empty() {
+        Ok(Some(Written { out, said }))
+    } else {
+        Ok(None)
+    }
 }
 
-/// Prints what is written of a core file, what is said of it, and why it was refused, if it was. Returns the status.
-fn print_written(rt: &HostRuntime, path: &str, written: &Written) -> Result<u8> {
+/// Prints what is written of a core file and what is said of it, or why it is refused. Returns the status.
+fn print_stacks(rt: &HostRuntime, path: &str, stacks: &Stacks) -> Result<u8> {
+    let written = match stacks {
+        Ok(Some(written)) => written,
+        Ok(None) => return status_of(rt, path, Ok(())),
+        Err(error) => return status_of(rt, path, Err(*error)),
+    };
     let printed = io::writer(rt).write_all(written.out.as_slice());
     Messages { rt }.write_all(written.said.as_slice())?;
     match printed {
-        Ok(()) => status_of(rt, path, written.ended),
+        Ok(()) => status_of(rt, path, Ok(())),
         Err(error) => status_of(rt, path, Err(error.into())),
     }
 }

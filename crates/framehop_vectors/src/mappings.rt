@@ -291,24 +291,19 @@ fn refuses_a_mapping_at_the_end_of_the_counter_on_aarch64(rt: HostRuntime) -> Re
     holds(is_exhausted(rt.alloc())?)
 }
 
-/// Whether a mapping has at least one address.
-fn has_an_address() -> bool {
-    Mapping::new(0x1000, 0x1000, 0, 0).is_none()
-        && Mapping::new(0x1000, 0x0fff, 0, 0).is_none()
-        && Mapping::new(0xffff_ffff_ffff_fffe, 0xffff_ffff_ffff_ffff, 0, 0).is_some()
-}
-
-/// Whether one without an address is refused.
-fn refuses_an_empty_one(alloc: Global) -> Result<bool, Fail> {
+/// Whether a mapping of these addresses is refused since it has none.
+fn is_empty(alloc: Global, addresses: (u64, u64)) -> Result<bool, Fail> {
     let mut generations = Generations::new();
     let process: Process<UnwinderAarch64<Vec<u8>>> = Process::new(alloc, &mut generations)?;
-    let refusal = refusal(alloc, process, &mut generations, (0x1000, 0x1000));
+    let refusal = refusal(alloc, process, &mut generations, addresses);
     Ok(refusal == Some(ProcessesError::EmptyMapping))
 }
 
 #[test]
 fn has_no_mapping_without_an_address(rt: HostRuntime) -> Result<(), Fail> {
-    holds(has_an_address() && refuses_an_empty_one(rt.alloc())?)
+    let alloc = rt.alloc();
+    let are_refused = is_empty(alloc, (0x1000, 0x1000))? && is_empty(alloc, (0x1000, 0x0fff))?;
+    holds(are_refused && !is_empty(alloc, (0xffff_ffff_ffff_fffe, 0xffff_ffff_ffff_ffff))?)
 }
 
 /// How many pages are mapped.
