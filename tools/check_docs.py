@@ -7,8 +7,8 @@ check_docs.py [--run [PROGRAM..]].
 - Each name in backticks of the pages of NAMED is in the sources, the scripts, the edits or a file's name.
 - The Rust of README.md, of docs/EXAMPLES.md and of the doc comments' examples is in the tests, line by line.
 - No line of a document has more than 100 words, tables and code excepted.
-- docs/api/framehop.md is what tools/api.py makes, and has each name that the tests name there; docs/DEFINITIONS.md is what
-  tools/definitions.py makes.
+- docs/api/framehop.md is what tools/api.py makes, and has each name that the tests name there; docs/DEFINITIONS.md and
+  the list of tests in docs/TESTED.md are what tools/definitions.py and tools/tested.py make.
 - The pages that the two make of all crates, in a folder of their own here, have no dead link, each public method, and each
   public definition of specs/, as these are read here.
 - Each edit of checks/edits/CRATE can be applied, and each promise of PROVED.md has one that the gate tries.
@@ -32,6 +32,7 @@ from pathlib import Path
 sys.dont_write_bytecode = True
 import api
 import definitions
+import tested
 
 TOP = Path(__file__).resolve().parent.parent
 NAMED = ["docs/PROVED.md", "docs/CHANGING.md", "checks/edits/README.md"]
@@ -165,6 +166,8 @@ def stale_pages():
         yield "docs/api/framehop.md is not what tools/api.py makes"
     if (TOP / "docs/DEFINITIONS.md").read_text() != definitions.contents_page():
         yield "docs/DEFINITIONS.md is not what tools/definitions.py makes"
+    if tested.PAGE.read_text() != tested.page():
+        yield "docs/TESTED.md is not what tools/tested.py makes"
 
 
 def faults_of_made_pages(names):
