@@ -1,59 +1,50 @@
 #!/usr/bin/env python3
-"""Writes a page for each library crate with its public items: what the doc comments say, the signature, and each
-clause of the contract with links to the definitions that it cites.
+"""Writes pages of the library crates with their public items: what the doc comments say, the signature, and each clause of
+the contract with links to the definitions that it cites.
 
-    api.py [FOLDER]     writes CRATE.md for each library into FOLDER, docs/api where none is named
+    api.py                      writes docs/api/framehop.md: what a user of `framehop` calls
+    api.py [--plain] FOLDER     writes CRATE.md for each library into FOLDER; with --plain nothing links to the sources
 
 The sources are read as text: a crate's modules from src/lib.rt on, through `pub mod`. An item is public where it
 and its modules are, and a method where its type or trait has it. A word of a clause is looked up in the `ghost use`
-lines of the item's file and block. Links lead from FOLDER to the lines of the sources.
+lines of the item's file and block. Links lead to the lines of the sources; those of docs/api/framehop.md to files, so that it
+changes only with what it has.
 """
 
+import argparse
 import os
 import re
-import sys
 from pathlib import Path
 
 TOP = Path(__file__).resolve().parent.parent
-LIBRARIES = [
-    "framehop",
-    "framehop_core",
-    "framehop_analysis",
-    "framehop_cache",
-    "framehop_bytes",
-    "framehop_cfi",
-    "framehop_dwarf",
-    "framehop_columns",
-    "framehop_signal",
-    "framehop_backtrace",
-    "framehop_macho",
-    "framehop_pe",
-    "framehop_walk",
-    "framehop_lent",
-    "framehop_c",
-    "framehop_recording",
-    "framehop_memory",
-    "framehop_code",
-    "framehop_check",
-    "framehop_elf",
-    "framehop_pe_file",
-    "framehop_coredump",
-    "framehop_minidump",
-    "framehop_folded",
-    "framehop_flame_graph",
-    "framehop_explain",
-    "framehop_processes",
-    "framehop_symbols",
-    "framehop_frames",
-    "framehop_perf_stacks",
-    "framehop_dump_stacks",
-]
+# the modules of `framehop` whose names its user has from the crates below
+ENTRANCES = ["framehop", "framehop::x86_64", "framehop::aarch64"]
+# those that are public for other crates of this repository, by which its user unwinds nothing
+INNER = ["framehop::unwind_by_data", "framehop::unwind_data"]
 ITEM = re.compile(r"(\s*)pub (?:const |extern \"C\" )?(fn|struct|enum|trait|const|type) (\w+)")
 BLOCK = re.compile(r"(\s*)(?:pub )?(impl|trait)\b(.*)")
 METHOD = re.compile(r"(\s*)(pub )?(?:final )?(?:const )?fn (\w+)")
 CLAUSE = re.compile(r"\s*(requires|ensures) (\w*) ?\{")
 GHOST_USE = re.compile(r"ghost use Rattle\.([\w.-]+)\.\{([^}]*)\}")
 WORD = re.compile(r"[^\W\d][\w'-]*")
+
+
+def libraries():
+    """The libraries of crates.txt, without tests."""
+    names = re.findall(r"^(framehop\w*)\b.*:", (TOP / "crates.txt").read_text(), re.M)
+    return [name for name in names if (TOP / "crates" / name / "src/lib.rt").is_file() and not name.endswith(("_vectors", "_sweeps"))]
+
+
+class Links:
+    """How the pages of a folder link to sources: to their lines, to their files, or not at all."""
+
+    def __init__(self, folder, has_lines=True, is_plain=False):
+        self.folder, self.has_lines, self.is_plain = folder, has_lines, is_plain
+
+    def source(self, name, file, line=None):
+        """A name with a link to where it is in a source."""
+        at = f"#L{line}" if line and self.has_lines else ""
+        return f"`{name}`" if self.is_plain else f"[`{name}`]({os.path.relpath(file, self.folder)}{at})"
 
 
 class Definitions:
@@ -195,31 +186,30 @@ def trait_of(lines, start):
     return [*lines[start : head + 1], *members, *["}"][: not lines[head].rstrip().endswith("}")]]
 
 
-def clause_text(clause, words, definitions, source, folder):
+def clause_text(clause, words, definitions, links):
     """A clause as Markdown: its text, and links to the definitions of its words."""
     keyword, name, text = clause
-    links = []
+    cited = []
     for word in dict.fromkeys(WORD.findall(text)):
         path, original = words.get(word, (None, None))
         place = definitions.place(path, original) if path else None
         if place:
-            links.append(f"[`{word}`]({os.path.relpath(place[0], folder)}#L{place[1]})")
+            cited.append(links.source(word, *place))
     text = re.sub(r"\n\s+", "\n  ", text)
     head = f"{keyword} {name}".strip()
-    lines = ["", f"*{head}*" + (": " + ", ".join(links) if links else ""), "", "```", text, "```"]
+    lines = ["", f"*{head}*" + (": " + ", ".join(cited) if cited else ""), "", "```", text, "```"]
     return lines
 
 
-def item_page(lines, number, kind, title, words, definitions, source, folder):
-    link = f"{os.path.relpath(source, folder)}#L{number + 1}"
-    page = ["", f"### [`{title}`]({link})", ""]
+def item_page(lines, number, kind, title, words, definitions, source, links):
+    page = ["", f"### {links.source(title, source, number + 1)}", ""]
     page += docs_before(lines, number) or ["(no text)"]
     if kind == "fn":
         signature, clauses = signature_and_clauses(lines, number)
         indent = len(signature[0]) - len(signature[0].lstrip())
         page += ["", "```rust", *[line[indent:] for line in signature], "```"]
         for clause in clauses:
-            page += clause_text(clause, words, definitions, source, folder)
+            page += clause_text(clause, words, definitions, links)
     elif kind in ("struct", "enum"):
         page += ["", "```rust", *body_of(lines, number), "```"]
     elif kind == "trait":
@@ -256,7 +246,7 @@ def owner_of(head):
     return (name[0] if name else rest.strip()), kind == "trait", by_trait
 
 
-def module_page(file, path, names, definitions, folder):
+def module_page(file, path, names, definitions, links):
     lines = file.read_text().split("\n")
     outer, page, number = imports([line for line in lines if not line.startswith(" ")]), [], 0
     while number < len(lines):
@@ -264,7 +254,7 @@ def module_page(file, path, names, definitions, folder):
         block = BLOCK.match(head_of(lines, number)) if BLOCK.match(line) else None
         item = ITEM.match(line)
         if item and item[1] == "" and (names is None or item[3] in names):
-            page += item_page(lines, number, item[2], f"{path}::{item[3]}", outer, definitions, file, folder)
+            page += item_page(lines, number, item[2], f"{path}::{item[3]}", outer, definitions, file, links)
         if block and line[0] != " " and not line.startswith("pub(crate)"):
             owner, all_public, by_trait = owner_of((block[2], block[3].strip()))
             end = block_end(lines, number, "")
@@ -273,7 +263,7 @@ def module_page(file, path, names, definitions, folder):
             for at in range(number + 1, end if shown else 0):
                 method = METHOD.match(lines[at])
                 if method and method[1] == "    " and (method[2] or all_public):
-                    page += item_page(lines, at, "fn", f"{owner}::{method[3]}", inside, definitions, file, folder)
+                    page += item_page(lines, at, "fn", f"{owner}::{method[3]}", inside, definitions, file, links)
             number = end - 1
         number += 1
     return page
@@ -283,8 +273,8 @@ class Names:
     """The public names of all libraries: the items of each module, and what a module passes on."""
 
     def __init__(self):
-        self.items, self.passed_on = {}, {}
-        for crate in LIBRARIES:
+        self.items, self.passed_on, self.libraries = {}, {}, libraries()
+        for crate in self.libraries:
             for file, path, names in modules(TOP / "crates" / crate / "src/lib.rt", crate):
                 text = file.read_text()
                 listed = [item[3] for item in map(ITEM.match, text.split("\n")) if item and item[1] == ""]
@@ -302,7 +292,7 @@ class Names:
                 here = words[-1].strip().rpartition("::")[2]
                 first = whole.partition("::")[0]
                 if here:
-                    yield here, whole if first in LIBRARIES else f"{crate if first == 'crate' else path}::{re.sub('^(crate|self)::', '', whole)}"
+                    yield here, whole if first in self.libraries else f"{crate if first == 'crate' else path}::{re.sub('^(crate|self)::', '', whole)}"
 
     def found(self, path):
         """The items that a path names, each with the rest of its path: itself, or all of a module."""
@@ -317,38 +307,93 @@ class Names:
         to = self.passed_on.get(around, {}).get(name)
         return self.found(to) if to else []
 
-    def links(self, path):
-        """Lines with links to what a module passes on."""
+    def named(self, path):
+        """The items under a module's names that are from elsewhere: each name with the path that the item has."""
         found = {}
         for name, to in self.passed_on.get(path, {}).items():
             for rest, at in self.found(to):
                 if at != f"{path}::{name}{rest}":
                     found[f"{path}::{name}{rest}"] = at
-        for name, at in sorted(found.items()):
-            yield f"- [`{name}`]({at.partition('::')[0]}.md#{at.replace('::', '').lower()})"
+        return sorted(found.items())
 
 
-def crate_page(crate, definitions, names_of_all, folder):
+def anchor(path):
+    return path.replace("::", "").lower()
+
+
+def crate_lines(crate, definitions, names_of_all, links, link_to_item, left_out=()):
     source = TOP / "crates" / crate / "src"
     page = [f"# `{crate}`", "", *re.findall(r"^//! ?(.*)", (source / "lib.rt").read_text(), re.M)]
     for file, path, names in modules(source / "lib.rt", crate):
-        items = module_page(file, path, names, definitions, folder)
-        passed_on = list(names_of_all.links(path)) if names is None else []
-        if items or passed_on:
+        if path in left_out:
+            continue
+        items = module_page(file, path, names, definitions, links)
+        named = names_of_all.named(path) if names is None else []
+        if items or named:
             about = re.findall(r"^//! ?(.*)", file.read_text(), re.M) if file.name != "lib.rt" else []
             page += ["", f"## `{path}`", "", *about, *items]
-        if passed_on:
-            page += ["", "Under names of this module, too:", "", *passed_on]
+        if named:
+            page += ["", "Under names of this module, too:", "", *(f"- {link_to_item(name, at)}" for name, at in named)]
+    return page
+
+
+def crate_page(crate, definitions, names_of_all, links):
+    lines = crate_lines(crate, definitions, names_of_all, links, lambda name, at: f"[`{name}`]({at.partition('::')[0]}.md#{anchor(at)})")
+    return "\n".join(lines) + "\n"
+
+
+def modules_below():
+    """The modules of the crates that `framehop` stands on, and their public items."""
+    for crate in (name for name in libraries() if name != "framehop"):
+        for file, path, names in modules(TOP / "crates" / crate / "src/lib.rt", crate):
+            yield file, path, names
+
+
+def page_of_framehop():
+    """What a user of `framehop` calls: its modules but those of INNER, and what those of ENTRANCES pass on by name."""
+    definitions, names, links = Definitions(), Names(), Links(TOP / "docs/api", has_lines=False)
+    files = {path: file for file, path, _ in modules_below()}
+    passed_on = [at for module in ENTRANCES for to in names.passed_on[module].values() for rest, at in names.found(to) if not rest]
+    wanted = {}
+    for at in passed_on:
+        module, _, name = at.rpartition("::")
+        if module in files:
+            wanted.setdefault(module, set()).add(name)
+
+    def link_to_item(name, at):
+        module, _, item = at.rpartition("::")
+        is_here = module not in files or item in wanted.get(module, ())
+        return f"[`{name}`](#{anchor(at)})" if is_here else links.source(name, files[module])
+
+    page = crate_lines("framehop", definitions, names, links, link_to_item, INNER)
+    for module, items in wanted.items():
+        page += ["", f"## `{module}`", *module_page(files[module], module, items, definitions, links)]
     return "\n".join(page) + "\n"
 
 
-def main():
-    folder = Path(sys.argv[1] if len(sys.argv) > 1 else TOP / "docs" / "api").resolve()
+def write_pages(folder, is_plain=False):
     folder.mkdir(parents=True, exist_ok=True)
-    definitions, names = Definitions(), Names()
-    for crate in LIBRARIES:
-        (folder / f"{crate}.md").write_text(crate_page(crate, definitions, names, folder))
-    print(f"{len(LIBRARIES)} pages in {folder}")
+    definitions, names, links = Definitions(), Names(), Links(folder, is_plain=is_plain)
+    for crate in libraries():
+        (folder / f"{crate}.md").write_text(crate_page(crate, definitions, names, links))
+    print(f"{len(libraries())} pages in {folder}")
+
+
+def arguments(doc):
+    """The arguments of a script that makes pages: a folder, or none, and whether links to sources are left out."""
+    parser = argparse.ArgumentParser(description=doc, formatter_class=argparse.RawDescriptionHelpFormatter)
+    parser.add_argument("--plain", action="store_true", help="no links to the sources")
+    parser.add_argument("folder", nargs="?", type=Path, help="the folder for the pages of all crates")
+    given = parser.parse_args()
+    return given.folder and given.folder.resolve(), given.plain
+
+
+def main():
+    folder, is_plain = arguments(__doc__)
+    if folder:
+        write_pages(folder, is_plain)
+    else:
+        (TOP / "docs/api/framehop.md").write_text(page_of_framehop())
 
 
 if __name__ == "__main__":

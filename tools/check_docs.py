@@ -7,10 +7,10 @@ check_docs.py [--run [PROGRAM..]].
 - Each name in backticks of the pages of NAMED is in the sources, the scripts, the edits or a file's name.
 - The Rust of README.md, of docs/EXAMPLES.md and of the doc comments' examples is in the tests, line by line.
 - No line of a document has more than 100 words, tables and code excepted.
-- The pages of docs/api are those that tools/api.py makes; they have each public method; and that of `framehop` has each name
-  that the tests name there.
-- docs/DEFINITIONS.md and the pages of docs/definitions are those that tools/definitions.py makes, and no others; and they have
-  each public definition of specs/, as it is read here.
+- docs/api/framehop.md is what tools/api.py makes, and has each name that the tests name there; docs/DEFINITIONS.md and
+  the list of tests in docs/TESTED.md are what tools/definitions.py and tools/tested.py make.
+- The pages that the two make of all crates, in a folder of their own here, have no dead link, each public method, and each
+  public definition of specs/, as these are read here.
 - Each edit of checks/edits/CRATE can be applied, and each promise of PROVED.md has one that the gate tries.
 - Each source, definition and proof has the layout that `rt fmt` gives it.
 - The column "may use" of ARCHITECTURE.md has for each crate what its line in crates.txt has; and EXAMPLES.md lists the
@@ -21,7 +21,7 @@ With `--run` it checks instead what README.md, docs/CHECK.md, docs/PROGRAMS.md a
 the gate leaves, or those that are named: the output of each command after a `$`, and the lines after a command in JSON.
 """
 
-import filecmp
+import contextlib
 import re
 import shlex
 import subprocess
@@ -29,14 +29,19 @@ import sys
 import tempfile
 from pathlib import Path
 
+sys.dont_write_bytecode = True
+import api
+import definitions
+import tested
+
 TOP = Path(__file__).resolve().parent.parent
 NAMED = ["docs/PROVED.md", "docs/CHANGING.md", "checks/edits/README.md"]
 # the pages whose commands are run
 SHOWN = ["README.md", "docs/CHECK.md", "docs/PROGRAMS.md", "docs/EXAMPLES.md"]
 PROGRAMS = ("check", "explain", "stacks", "walk")
 EXAMPLES = [TOP / f"crates/{place}/readme.rt" for place in ("framehop_vectors/src", "framehop_file_vectors/src/elf", "framehop_file_vectors/src/minidump")]
-# the folders of pages that scripts make
-MADE = ("api", "definitions")
+# the page that a script makes of sources
+MADE = TOP / "docs/api/framehop.md"
 PATHS = TOP / "crates/framehop_vectors/src/paths.rt"
 FENCE = re.compile(r"^```.*?^```", re.M | re.S)
 WORD = re.compile(r"[^\W\d][\w'-]*")
@@ -51,7 +56,7 @@ FOREIGN = set("Err None Some Ok Option Result Vec u8 u16 u32 u64 usize for true 
 
 def documents():
     readmes = [TOP / "README.md", TOP / "CHANGELOG.md", TOP / "bindings/README.md", TOP / "checks/cases/README.md", TOP / "checks/edits/README.md"]
-    return [*readmes, *sorted(TOP.glob("docs/*.md")), *(page for folder in MADE for page in sorted(TOP.glob(f"docs/{folder}/*.md")))]
+    return [*readmes, *sorted(TOP.glob("docs/*.md")), MADE]
 
 
 def without_code(text):
@@ -155,35 +160,45 @@ def untested_doc_examples():
                     yield f"{page.relative_to(TOP)}: not in the tests: {code}"
 
 
-def stale_pages(script, place):
-    """Pages of a folder that are not what a script makes there; and those that it doesn't make, in its own folders."""
-    with tempfile.TemporaryDirectory(dir=place.parent) as folder:
-        fresh = Path(folder)
-        subprocess.run([sys.executable, TOP / "tools" / script, fresh], check=True, stdout=subprocess.DEVNULL)
-        made = {page.relative_to(fresh) for page in fresh.rglob("*.md")}
-        for page in sorted(made):
-            kept = place / page
-            if not kept.exists() or not filecmp.cmp(kept, fresh / page, shallow=False):
-                yield f"{page} is not what tools/{script} makes"
-        folders = {page.parent for page in made if place.name != "docs" or page.parent.name}
-        kept = {page.relative_to(place) for folder in folders for page in (place / folder).glob("*.md")}
-        yield from (f"{page} is not made by tools/{script}" for page in sorted(kept - made))
+def stale_pages():
+    """Pages that are not what the scripts make of the sources."""
+    if MADE.read_text() != api.page_of_framehop():
+        yield "docs/api/framehop.md is not what tools/api.py makes"
+    if (TOP / "docs/DEFINITIONS.md").read_text() != definitions.contents_page():
+        yield "docs/DEFINITIONS.md is not what tools/definitions.py makes"
+    if tested.PAGE.read_text() != tested.page():
+        yield "docs/TESTED.md is not what tools/tested.py makes"
 
 
-def definitions_not_on_the_pages():
+def faults_of_made_pages(names):
+    """What is wrong in the pages that the scripts make of all crates."""
+    with tempfile.TemporaryDirectory() as folder:
+        of_api, of_definitions = Path(folder) / "api", Path(folder) / "definitions"
+        with contextlib.redirect_stdout(None):
+            api.write_pages(of_api)
+            definitions.write_pages(Path(folder))
+        for page in sorted([*of_api.glob("*.md"), *of_definitions.glob("*.md")]):
+            text = page.read_text()
+            for fault in (*dead_links(page, text), *lost_files(text, names)):
+                yield f"{page.relative_to(folder)}: {fault}"
+        yield from methods_not_on_the_pages(of_api)
+        yield from definitions_not_on_the_pages(of_definitions)
+
+
+def definitions_not_on_the_pages(folder):
     """Public definitions of specs/ that their crate's page doesn't have, as read here and not by tools/definitions.py."""
-    for page in sorted((TOP / "docs/definitions").glob("*.md")):
+    for page in sorted(folder.glob("*.md")):
         specs, text = TOP / "crates" / page.stem / "specs", page.read_text()
         for file in sorted(specs.rglob("*.antt")):
             if "Laws" not in file.relative_to(specs).with_suffix("").parts:
                 for name in re.findall(r"^ *(?:(?:abbrev|unfoldable) pub|pub (?:record|data)) ([\w'-]+)", file.read_text(), re.M):
                     if f"[`{name}`]" not in text:
-                        yield f"{page.name} has no {name} of {file.relative_to(TOP)}"
+                        yield f"definitions/{page.name} has no {name} of {file.relative_to(TOP)}"
 
 
 def names_not_on_the_page():
     """Names under which the tests use `framehop`, and which its page doesn't have."""
-    page = (TOP / "docs/api/framehop.md").read_text()
+    page = MADE.read_text()
     for use in re.findall(r"^use (framehop::[^;]+);", PATHS.read_text(), re.M):
         before, _, inside = "".join(use.split()).partition("{")
         for name in inside.rstrip("}").split(",") if inside else [""]:
@@ -200,10 +215,10 @@ def private_files(sources):
         yield from (folder / f"{name}.rt" for name in re.findall(r"^mod (\w+);", file.read_text(), re.M))
 
 
-def methods_not_on_the_pages():
+def methods_not_on_the_pages(folder):
     """Public methods that a crate's page doesn't have: those of public traits and those that begin with `pub`, as read here
     and not by tools/api.py."""
-    for page in sorted((TOP / "docs/api").glob("framehop*.md")):
+    for page in sorted(folder.glob("*.md")):
         titles, sources = re.findall(r"^#+ .*::(\w+)`", page.read_text(), re.M), TOP / "crates" / page.stem / "src"
         for file in sorted(set(sources.rglob("*.rt")) - set(private_files(sources))):
             in_trait = False
@@ -212,7 +227,7 @@ def methods_not_on_the_pages():
                 found = re.match(r"    ((?:\w+ )*)fn (\w+)", line)
                 is_public = found and (in_trait or found[1].startswith("pub "))
                 if is_public and found[2] not in titles:
-                    yield f"{page.name} has no method {found[2]} of {file.relative_to(TOP)}"
+                    yield f"api/{page.name} has no method {found[2]} of {file.relative_to(TOP)}"
 
 
 def edit_faults(text, crate):
@@ -365,7 +380,7 @@ def faults():
     for page in documents():
         text, name = page.read_text(), str(page.relative_to(TOP))
         checks = [dead_links(page, text), lost_files(text, names)]
-        if page.parent.name not in MADE:
+        if page != MADE:
             checks.append(long_lines(text))
         if name in NAMED:
             checks.append(missing_names(text, known))
@@ -374,10 +389,9 @@ def faults():
     yield from (f"docs/ARCHITECTURE.md: {fault}" for fault in wrong_uses())
     yield from (f"docs/EXAMPLES.md: {fault}" for fault in wrong_libraries())
     yield from (f"docs/PROGRAMS.md: {fault}" for fault in commands_without_an_example())
-    of_api = [stale_pages("api.py", TOP / "docs/api"), names_not_on_the_page(), methods_not_on_the_pages()]
-    yield from (f"docs/api: {fault}" for check in of_api for fault in check)
-    of_definitions = [stale_pages("definitions.py", TOP / "docs"), definitions_not_on_the_pages()]
-    yield from (f"docs: {fault}" for check in of_definitions for fault in check)
+    yield from stale_pages()
+    yield from (f"docs/api: {fault}" for fault in names_not_on_the_page())
+    yield from faults_of_made_pages(names)
     yield from untested_doc_examples()
     yield from wrong_edits()
     yield from not_in_the_layout(names)

@@ -1,20 +1,22 @@
 #!/usr/bin/env python3
-"""Writes a page for each crate with what its contracts speak of: the definitions of its specs/, as the comments there say
-them, and what cites each; and docs/DEFINITIONS.md, the list of the pages.
+"""Writes what contracts speak of: the list of the crates with definitions, and for each of them a page with the definitions of
+its specs/, as the comments there say them, and what cites each.
 
-    definitions.py [FOLDER]     writes DEFINITIONS.md and definitions/CRATE.md into FOLDER, docs where none is named
+    definitions.py                      writes docs/DEFINITIONS.md, the list, with links to the sources
+    definitions.py [--plain] FOLDER     writes DEFINITIONS.md and definitions/CRATE.md into FOLDER; with --plain nothing links to
+                                        the sources
 
 The sources are read as text. A comment belongs to the definition under it and to those that follow without one. A definition
 is cited by each function whose contract has its name, as `ghost use` brings it in, and by each trait and impl that has it in a
 ghost member; or, where there is none, by the definitions that are made of it. Lemmas are listed by their files.
 """
 
-import os
 import re
 import sys
 from dataclasses import dataclass, field
 from pathlib import Path
 
+sys.dont_write_bytecode = True
 import api
 
 TOP = api.TOP
@@ -218,11 +220,7 @@ def cell(text):
     return text.replace("|", "\\|").replace("<", "&lt;")
 
 
-def link_to(path, folder, line=None):
-    return os.path.relpath(path, folder) + (f"#L{line}" if line else "")
-
-
-def rows(file, crate, folder):
+def rows(file, crate, links):
     """The tables of a file's definitions, one for each part of it."""
     is_open = False
     for it in file.content:
@@ -233,7 +231,7 @@ def rows(file, crate, folder):
         if not is_open:
             yield from ("", "| Definition | What it is | Cited by |", "|---|---|---|")
             is_open = True
-        names = ", ".join(f"[`{cell(member.name)}`]({link_to(file.path, folder, member.line)})" for member in it.members)
+        names = ", ".join(links.source(cell(member.name), file.path, member.line) for member in it.members)
         yield f"| {names} | {cell(it.says)} | {cell(citing(it, crate))} |"
 
 
@@ -241,60 +239,77 @@ def title(file, crate):
     return str(file.relative_to(TOP / "crates" / crate).with_suffix("")).removeprefix("specs/")
 
 
-def crate_page(crate, files, lemmas, folder):
+def crate_page(crate, files, lemmas, links):
     lib, *others = files
     page = [f"# Definitions of `{crate}`", "", *lib.about]
     for file in others:
         if file.content:
-            page += ["", f"## [`{title(file.path, crate)}`]({link_to(file.path, folder)})", "", *file.about, *rows(file, crate, folder)]
+            page += ["", f"## {links.source(title(file.path, crate), file.path)}", "", *file.about, *rows(file, crate, links)]
     if lemmas:
         page += ["", "## Lemmas", "", LEMMAS, "", "| File | What it has |", "|---|---|"]
     for file in lemmas:
         about, _ = head_of(file.read_text().split("\n"))
-        page.append(f"| [`{title(file, crate)}`]({link_to(file, folder)}) | {cell(' '.join(about))} |")
+        page.append(f"| {links.source(title(file, crate), file)} | {cell(' '.join(about))} |")
     return "\n".join(page) + "\n"
 
 
-def contents(crates):
-    """The list of the pages."""
+def contents(crates, link_of):
+    """The list of the crates."""
     yield from ("# Definitions", "")
     yield (
-        "What contracts speak of, crate by crate: each definition with what it is, where it comes from, and what cites it. One without "
-        "a source is this project's own. [READING.md](READING.md) says how a contract is read. `tools/definitions.py` makes these pages "
-        "of the comments in `specs/`."
+        "What contracts speak of, crate by crate: each definition has a comment that says what it is and where it comes from. One "
+        "without a source is this project's own. [READING.md](READING.md) says how a contract is read. `tools/definitions.py FOLDER` "
+        "makes a page for each crate, with what cites each definition."
     )
-    yield from ("", "| Crate | What its definitions are of | How many |", "|---|---|---|")
+    yield from ("", "| Crate | What its definitions are of |", "|---|---|")
     for crate, files in crates.items():
-        count = sum(len(file.definitions()) for file in files)
         about = " ".join(files[0].about).split("  ")[0].removeprefix("What the contracts of this crate cite: ").rstrip(".")
-        yield f"| [`{crate}`](definitions/{crate}.md) | {cell(about)} | {count} |"
+        yield f"| [`{crate}`]({link_of(crate)}) | {cell(about)} |"
 
 
-def crates_with_definitions():
-    """The crates that have specs/, in the order of crates.txt, without tests."""
-    names = re.findall(r"^(framehop\w*)\b.*:", (TOP / "crates.txt").read_text(), re.M)
-    return [name for name in names if (TOP / "crates" / name / "specs/Lib.antt").is_file() and not name.endswith(("_vectors", "_sweeps"))]
+class All:
+    """The definitions of all crates, with what cites each."""
+
+    def __init__(self):
+        self.crates, self.lemmas = {}, {}
+        for crate in api.libraries():
+            if (TOP / "crates" / crate / "specs/Lib.antt").is_file():
+                paths, self.lemmas[crate] = files_of(crate)
+                self.crates[crate] = [read_file(path) for path in paths]
+        self.crates = {crate: files for crate, files in self.crates.items() if any(file.content for file in files)}
+
+    def note_what_cites(self):
+        every = [file for files in self.crates.values() for file in files]
+        cited = Cited(every)
+        for crate in self.crates:
+            for source in sorted((TOP / "crates" / crate / "src").rglob("*.rt")):
+                cited.note_source(source, crate)
+        for file in every:
+            cited.note_definitions(file)
+
+
+def contents_page():
+    """docs/DEFINITIONS.md."""
+    return "\n".join(contents(All().crates, lambda crate: f"../crates/{crate}/specs/Lib.antt")) + "\n"
+
+
+def write_pages(folder, is_plain=False):
+    inner = folder / "definitions"
+    inner.mkdir(parents=True, exist_ok=True)
+    every, links = All(), api.Links(inner, is_plain=is_plain)
+    every.note_what_cites()
+    for crate, files in every.crates.items():
+        (inner / f"{crate}.md").write_text(crate_page(crate, files, every.lemmas[crate], links))
+    (folder / "DEFINITIONS.md").write_text("\n".join(contents(every.crates, lambda crate: f"definitions/{crate}.md")) + "\n")
+    print(f"{len(every.crates)} pages in {inner}")
 
 
 def main():
-    folder = Path(sys.argv[1] if len(sys.argv) > 1 else TOP / "docs").resolve()
-    (folder / "definitions").mkdir(parents=True, exist_ok=True)
-    crates, lemmas = {}, {}
-    for crate in crates_with_definitions():
-        paths, lemmas[crate] = files_of(crate)
-        crates[crate] = [read_file(path) for path in paths]
-    crates = {crate: files for crate, files in crates.items() if any(file.content for file in files)}
-    every = [file for files in crates.values() for file in files]
-    cited = Cited(every)
-    for crate in crates:
-        for source in sorted((TOP / "crates" / crate / "src").rglob("*.rt")):
-            cited.note_source(source, crate)
-    for file in every:
-        cited.note_definitions(file)
-    for crate, files in crates.items():
-        (folder / f"definitions/{crate}.md").write_text(crate_page(crate, files, lemmas[crate], folder / "definitions"))
-    (folder / "DEFINITIONS.md").write_text("\n".join(contents(crates)) + "\n")
-    print(f"{len(crates)} pages in {folder / 'definitions'}")
+    folder, is_plain = api.arguments(__doc__)
+    if folder:
+        write_pages(folder, is_plain)
+    else:
+        (TOP / "docs/DEFINITIONS.md").write_text(contents_page())
 
 
 if __name__ == "__main__":

@@ -1,11 +1,13 @@
 #!/usr/bin/env bash
 # Installs what is built: install.sh PREFIX; install.sh --uninstall PREFIX.
 #
-# Into PREFIX go the programs (bin) and their manual pages (share/man/man1), what framehop-stacks is made of (lib/framehop), the archive for C with the kit's shims of malloc in it
-# (lib/libframehop.a), its header, its file for pkg-config, the same as a shared library (lib/libframehop.so.0, by cc), the Python module
-# over that (lib/python3/dist-packages), and the licences. Nothing is written outside of PREFIX; with DESTDIR, as packagers have it, all
-# goes below that folder first. What was installed is listed in PREFIX/share/doc/framehop/files, by which it is removed again. Nothing is
-# proved or built here: what is not built yet is named, with the command that builds it, and the status is 1.
+# Into PREFIX go the programs (bin) and their manual pages (share/man/man1), what framehop-stacks is made of (lib/framehop), the
+# archive for C with the kit's shims of malloc in it (lib/libframehop.a), its header, its file for pkg-config, the same as a shared
+# library (lib/libframehop.so.0, by cc), the Python module over that (lib/python3/dist-packages), and in share/doc/framehop pages
+# with the public items and definitions of all libraries, and the licences. Nothing is written outside of PREFIX; with DESTDIR, as
+# packagers have it, all goes below that folder first. What was installed is listed in PREFIX/share/doc/framehop/files, by which it
+# is removed again. Nothing is proved or built here: what is not built yet is named, with the command that builds it, and the status
+# is 1.
 set -eu -o pipefail
 top=$(cd "$(dirname "$(realpath -- "${BASH_SOURCE[0]}")")/.." && pwd)
 
@@ -25,7 +27,7 @@ remove() {
     [ -f "$list" ] || { say "there is no $list: nothing was installed there"; exit 1; }
     while read -r file; do rm -f -- "$root/$file"; done <"$list"
     rm -f -- "$list"
-    find "$root/share/doc/framehop" "$root/lib/framehop" -maxdepth 0 -empty -delete 2>/dev/null || true
+    find "$root/share/doc/framehop" "$root/lib/framehop" -depth -type d -empty -delete 2>/dev/null || true
 }
 
 # Installs a file under its name in PREFIX, with these permissions.
@@ -72,6 +74,16 @@ pkg_config() {
         'Cflags: -I${includedir}' 'Libs: -L${libdir} -lframehop'
 }
 
+# How a contract is read, the public items of all libraries, and the definitions of their contracts.
+put_pages() {
+    local page
+    python3 "$top/tools/api.py" --plain "$work/pages/api" >/dev/null
+    python3 "$top/tools/definitions.py" --plain "$work/pages" >/dev/null
+    cp "$top/docs/READING.md" "$work/pages"
+    find "$work/pages" -name '*.md' -printf '%P\n' | sort >"$work/listed"
+    while read -r page; do put 644 "$work/pages/$page" "share/doc/framehop/$page"; done <"$work/listed"
+}
+
 if [ -n "$removes" ]; then remove; exit; fi
 work=$(mktemp -d)
 trap 'rm -rf "$work"' EXIT
@@ -101,6 +113,7 @@ else
     say "libframehop_c.a is not built: (cd crates/framehop_c && rt lib)"
     status=1
 fi
+put_pages
 for name in LICENSE-APACHE LICENSE-MIT; do put 644 "$top/$name" "share/doc/framehop/$name"; done
 install -m 644 -- "$work/files" "$list"
 exit "$status"

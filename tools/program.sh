@@ -230,7 +230,7 @@ build() {
 }
 
 if is_current && [ "${FRAMEHOP_TRY:-}" != 1 ]; then exec "$built" "$@"; fi
-command -v rt >/dev/null || { say "the kit of Rattle is not on the PATH, and the program is not built yet: see \"Install\" in README.md"; exit 1; }
+command -v rt >/dev/null || { say "the kit of Rattle is not on the PATH, and the program is not built yet: see \"Start\" in README.md"; exit 1; }
 work=$(mktemp -d) || exit 1
 alone=
 set -m
