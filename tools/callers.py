@@ -190,6 +190,29 @@ def uncalled(text):
             yield f"`{span}` is called by no program, no binding and no public item of the library"
 
 
+@cache
+def texts_of():
+    """The sources by what a path may name before `::`: a crate, a module, a type or a trait."""
+    found = {}
+    for crate in crates():
+        for file in files(crate):
+            text = without_words(file.read_text())
+            module = crate.name if file.stem in ("lib", "main") else file.stem
+            for name in {module, *re.findall(r"\b(?:struct|enum|trait|type) (\w+)", text), *(name for _, _, name in owners(text))}:
+                found.setdefault(name, []).append(text)
+    return found
+
+
+def lost_paths(text):
+    """The paths that a page has in backticks, and whose last name nothing declares in the module or the type before it."""
+    for span in sorted(set(re.findall(r"`(\w+(?:::\w+)+)`", text))):
+        *_, before, name = span.split("::")
+        declared = re.compile(rf"\b(?:fn|struct|enum|trait|const|static|type|mod|use) {name}\b|^\s*(?:pub )?{name}\s*[:,({{=]|\buse [^;]*\b{name}\b", re.M)
+        held = texts_of().get(before)
+        if held is not None and not any(declared.search(source) for source in held):
+            yield f"`{span}`: {before} has no {name}"
+
+
 def public_items(file):
     """The public items of a source: line, kind, name, and the text that tells of other types."""
     lines = without_words(file.read_text()).split("\n")

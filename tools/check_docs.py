@@ -4,7 +4,12 @@ check_docs.py [--run [PROGRAM..]].
 
 - Each link of a document leads to a file of the repository, to a heading that is there, or to a line that is.
 - Each script or source in backticks is a file of the repository.
-- Each name in backticks of the pages of NAMED is in the sources, the scripts, the edits or a file's name.
+- Each name in backticks of the pages of NAMED is in the sources, the scripts, the edits or a file's name; so is each of
+  several words of the other pages; and the last name of each path is declared in the module or the type before it.
+- Each function that PROVED.md names is called by a program, a binding or a public item of the library; and each public item
+  of a library is named by another crate, a test or a binding.
+- docs/house.svg has the crates, what stands on what, and the lines that tools/house.py draws.
+- No stored file has the environment of a process.
 - The Rust of README.md, of docs/EXAMPLES.md and of the doc comments' examples is in the tests, line by line.
 - No line of a document has more than 100 words, tables and code excepted.
 - docs/api/framehop.md is what tools/api.py makes, and has each name that the tests name there; docs/DEFINITIONS.md and
@@ -31,11 +36,17 @@ from pathlib import Path
 
 sys.dont_write_bytecode = True
 import api
+import callers
 import definitions
+import house
 import tested
 
 TOP = Path(__file__).resolve().parent.parent
-NAMED = ["docs/PROVED.md", "docs/CHANGING.md", "checks/edits/README.md"]
+NAMED = [
+    *(f"docs/{name}.md" for name in ("ARCHITECTURE", "CHANGING", "DEFINITIONS", "PROVED", "READING")),
+    *(f"{name}/README.md" for name in ("bindings", "checks/cases", "checks/edits")),
+    "CHANGELOG.md",
+]
 # the pages whose commands are run
 SHOWN = ["README.md", "docs/CHECK.md", "docs/PROGRAMS.md", "docs/EXAMPLES.md"]
 PROGRAMS = ("check", "explain", "stacks", "walk")
@@ -52,6 +63,10 @@ LEAST_SHOWN = 8
 EDIT_KEYS = {"fn", "gate", "alone", "harmless"}
 # words of a name in backticks that are not names of this repository: Rust's, and values of arguments
 FOREIGN = set("Err None Some Ok Option Result Vec u8 u16 u32 u64 usize for true false null".split())
+# names of several words that are those of other programs
+OTHERS = {"clap_complete", "my_profiler", "x25519_fe51_mul"}
+# how the environment of a process is stored, as bytes and as hexadecimal digits
+ENVIRONMENT = re.compile(rb"(?:^|[\0\n])(?:HOME|PWD|PATH|USER|LOGNAME|SHELL|HOSTNAME)=[^\0\n]*\0|00(?:484f4d45|505744|50415448|55534552|5348454c4c)3d", re.I)
 
 
 def documents():
@@ -126,6 +141,26 @@ def missing_names(text, known):
             parts = {word, *word.split("-")}
             if word not in known and not parts <= known and word not in FOREIGN:
                 yield f"`{span}`: no {word} in the sources"
+
+
+def missing_long_names(text, known):
+    """Names of several words, joined by `_`, that the sources don't have; directives begin with a dot."""
+    for span in re.findall(r"`([^`.\n][^`\n]*)`", without_code(text)):
+        for word in WORD.findall(span):
+            if re.fullmatch(r"[a-z][a-z0-9]*(?:_[a-z0-9]+)+", word) and word not in known | OTHERS:
+                yield f"`{span}`: no {word} in the sources"
+
+
+def stored_environments(names):
+    """Stored files in which a process's environment is."""
+    for name in names:
+        if not name.startswith("tools/") and ENVIRONMENT.search((TOP / name).read_bytes()):
+            yield f"{name} has the environment of a process: make it by `env -i`"
+
+
+def stale_house():
+    """What of docs/house.svg is not as tools/house.py draws it."""
+    yield from (f"{what} is not as tools/house.py draws it" for what in house.stale((TOP / "docs/house.svg").read_text()))
 
 
 def long_lines(text):
@@ -382,8 +417,8 @@ def faults():
         checks = [dead_links(page, text), lost_files(text, names)]
         if page != MADE:
             checks.append(long_lines(text))
-        if name in NAMED:
-            checks.append(missing_names(text, known))
+        checks.append(callers.lost_paths(text))
+        checks.append(missing_names(text, known) if name in NAMED else missing_long_names(text, known))
         yield from (f"{name}: {fault}" for check in checks for fault in check)
     yield from (f"README.md, docs/EXAMPLES.md: {fault}" for fault in untested_examples())
     yield from (f"docs/ARCHITECTURE.md: {fault}" for fault in wrong_uses())
@@ -392,6 +427,10 @@ def faults():
     yield from stale_pages()
     yield from (f"docs/api: {fault}" for fault in names_not_on_the_page())
     yield from faults_of_made_pages(names)
+    yield from (f"docs/PROVED.md: {fault}" for fault in callers.uncalled((TOP / "docs/PROVED.md").read_text()))
+    yield from callers.unnamed()
+    yield from (f"docs/house.svg: {fault}" for fault in stale_house())
+    yield from stored_environments(names)
     yield from untested_doc_examples()
     yield from wrong_edits()
     yield from not_in_the_layout(names)

@@ -8,6 +8,7 @@ of tests are left out. The lines that are counted are those of src/ (code and co
 (definitions), and of specs/Laws and proofs/ (proofs). Needs Graphviz's `dot`, which lays the picture out.
 """
 
+import re
 import subprocess
 import sys
 from pathlib import Path
@@ -15,7 +16,7 @@ from pathlib import Path
 TOP = Path(__file__).resolve().parent.parent
 # the colours of libraries, and of programs
 LIBRARY, PROGRAM = ("#dbe8f7", "#2b5d94"), ("#dff2df", "#2c7a39")
-NOTE = "numbers are lines; a crate stands on those below it; crates of tests are left out"
+NOTE = "numbers are lines, to two digits; a crate stands on those below it; crates of tests are left out"
 
 
 def stands_on():
@@ -39,6 +40,12 @@ def direct(below):
                 yield crate, other
 
 
+def rounded(count):
+    """A number of lines to two digits, so that not each change of a line is one of the picture."""
+    unit = 10 ** max(0, len(str(count)) - 2)
+    return (count + unit // 2) // unit * unit
+
+
 def counts(crate):
     """The lines of a crate, by kind."""
 
@@ -56,11 +63,15 @@ def counts(crate):
     }
 
 
+def told(crate):
+    """What a crate's box says of its lines."""
+    return [f"{rounded(count):,} {kind}" for kind, count in counts(crate).items() if count]
+
+
 def box(crate):
     is_program = (TOP / "crates" / crate / "src/main.rt").is_file()
     fill, stroke = PROGRAM if is_program else LIBRARY
-    told = [f"{count:,} {kind}" for kind, count in counts(crate).items() if count]
-    small = "".join(f'<br/><font point-size="10">{text}</font>' for text in told)
+    small = "".join(f'<br/><font point-size="10">{text}</font>' for text in told(crate))
     return f'{crate} [label=<<b>{crate}</b>{small}>, fillcolor="{fill}", color="{stroke}"]'
 
 
@@ -78,9 +89,23 @@ def picture(below):
     )
 
 
+def stale(svg):
+    """The crates of which a picture has no box, or one that says something else; and those that are gone."""
+    drawn = {
+        name: re.findall(r"<text[^>]*>([^<]*)</text>", inside)[1:]
+        for name, inside in re.findall(r'<g id="node\d+" class="node">\s*<title>(\w+)</title>(.*?)</g>', svg, re.S)
+    }
+    lines = {tuple(edge.split("&#45;&gt;")) for edge in re.findall(r"<title>(\w+&#45;&gt;\w+)</title>", svg)}
+    below = stands_on()
+    wanted = {crate: told(crate) for crate in below}
+    yield from sorted(name for name in drawn.keys() | wanted.keys() if drawn.get(name) != wanted.get(name))
+    yield from sorted(f"{upper} over {lower}" for upper, lower in lines ^ set(direct(below)))
+
+
 def main():
     file = sys.argv[1] if len(sys.argv) > 1 else TOP / "docs/house.svg"
     subprocess.run(["dot", "-Tsvg", "-o", file], input=picture(stands_on()), text=True, check=True)
 
 
-main()
+if __name__ == "__main__":
+    main()

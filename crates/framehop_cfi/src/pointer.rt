@@ -115,7 +115,11 @@ impl SectionBaseAddresses {
 
 /// Returns a pointer by its format only (the encoding's low four bits), as a number of 64 bits.
 #[tactic(auto, unfolding(crate::specs::Raw::raw_at))]
-pub(crate) fn read_raw_pointer(bytes: &[u8], at: usize, encoding: u8) -> Result<(u64, usize), ReadError>
+pub(crate) fn read_raw_pointer(
+    bytes: &[u8],
+    at: usize,
+    encoding: u8,
+) -> Result<(u64, usize), ReadError>
     ensures exact { result ≡ raw_at (format_of encoding) bytes.now at }
     ensures forward { IfOk result (λ read. at < read.1) }
     ensures refusal { IfErr result IsSliceRefusal }

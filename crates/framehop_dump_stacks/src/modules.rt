@@ -38,7 +38,7 @@ pub fn read_files<'m, S: FileSource>(
 }
 
 /// Returns the files whose code is mapped, each once, of which nothing is read before [`read_files_asked_for`].
-pub fn leave_out_files<'m>(alloc: Global, dump: &Dump<'_>) -> Result<Files<'m>, AllocError>
+pub(crate) fn leave_out_files<'m>(alloc: Global, dump: &Dump<'_>) -> Result<Files<'m>, AllocError>
     ensures { IfOk result (λ files. AreLeftOutOf (dump_view dump.now) files) }
 {
     let mut files = Files::new(alloc)?;
@@ -50,7 +50,7 @@ pub fn leave_out_files<'m>(alloc: Global, dump: &Dump<'_>) -> Result<Files<'m>, 
 
 /// Reads the files whose code is mapped that were left out and of which something was asked for, each once; or all that were
 /// left out. Returns whether any was read.
-pub fn read_files_asked_for<S: FileSource>(
+pub(crate) fn read_files_asked_for<S: FileSource>(
     alloc: Global,
     dump: &Dump<'_>,
     source: &S,

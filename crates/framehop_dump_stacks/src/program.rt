@@ -19,9 +19,7 @@ use crate::explain::explained_text;
 use crate::frame_headers::headers_of;
 use crate::machine::Dumped;
 use crate::minidump::{LoadedModule, dump_in, read_module_files, read_parts, with_code};
-use crate::modules::{
-    DumpModules, bare_module, leave_out_files, map_files, read_files_asked_for,
-};
+use crate::modules::{DumpModules, bare_module, leave_out_files, map_files, read_files_asked_for};
 use crate::problems::said_text;
 use crate::text::threads_text;
 use framehop::aarch64::UnwinderAarch64;
@@ -188,7 +186,7 @@ fn write_minidump<'a, S: FileSource, W: Write, E: Write>(
 /// # Errors
 ///
 /// `OutOfMemory`, `GenerationsExhausted` and `CannotWrite`.
-pub fn write_dump_stacks<'m, W: Write, E: Write>(
+pub(crate) fn write_dump_stacks<'m, W: Write, E: Write>(
     alloc: Global,
     dump: &Dump<'m>,
     files: &Files<'m>,

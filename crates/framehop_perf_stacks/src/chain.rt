@@ -11,7 +11,10 @@ use framehop_frames::stack::{Stack, StackFrame};
 use std::alloc::{AllocError, Global};
 
 /// Returns where the frames of a chain are, by its addresses from the innermost on.
-pub(crate) fn chain_locations(alloc: Global, addresses: &[u64]) -> Result<Vec<FrameAddress>, AllocError>
+pub(crate) fn chain_locations(
+    alloc: Global,
+    addresses: &[u64],
+) -> Result<Vec<FrameAddress>, AllocError>
     ensures { IfOk result (λ frames. map location_of frames.items ≡ chain_locations addresses.now) }
 {
     let mut frames = Vec::new(alloc);

@@ -61,7 +61,10 @@ struct BuildIdsByName<'a> {
 ///
 /// `Recording` with the first refusal of the header or of the events, and `OutOfMemory`. What refuses a record
 /// is in the field `refusal`.
-pub(crate) fn read_recording<'a>(alloc: Global, file: &'a [u8]) -> Result<Recording<'a>, StacksError>
+pub(crate) fn read_recording<'a>(
+    alloc: Global,
+    file: &'a [u8],
+) -> Result<Recording<'a>, StacksError>
     ensures exact { IfOk result (λ recording. IsReadOf file.entry.now recording) }
     ensures refused { IfErr result (λ error. (error ≡ StacksError.OutOfMemory)
         ⊎ ((refusal : RecordingError) × (events_in file.entry.now ≡ Err refusal) × (error ≡ of_recording refusal))) }

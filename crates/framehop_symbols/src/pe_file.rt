@@ -47,7 +47,11 @@ fn segment_of(section: SectionHeader) -> Segment
 }
 
 /// Returns what tells a file from others of its name: the GUID and the age of its program database, or no bytes.
-pub(crate) fn identity_in<'a>(file: &'a [u8], header: FileHeader, sections: &[SectionHeader]) -> &'a [u8]
+pub(crate) fn identity_in<'a>(
+    file: &'a [u8],
+    header: FileHeader,
+    sections: &[SectionHeader],
+) -> &'a [u8]
     ensures { result.now ≡ identity_of file.entry.now header sections.now }
 {
     match read_rsds(file, header, sections) {
@@ -69,7 +73,11 @@ pub fn read_headers(alloc: Global, file: &[u8]) -> Result<(FileHeader, Vec<Secti
 }
 
 /// Returns the function table of a file, no bytes where it has none.
-pub(crate) fn pdata_in<'a>(file: &'a [u8], header: FileHeader, sections: &[SectionHeader]) -> &'a [u8]
+pub(crate) fn pdata_in<'a>(
+    file: &'a [u8],
+    header: FileHeader,
+    sections: &[SectionHeader],
+) -> &'a [u8]
     ensures { result.now ≡ pdata_of file.entry.now header sections.now }
 {
     match lend_unwind_sections(file, header, sections).pdata {

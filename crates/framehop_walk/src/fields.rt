@@ -95,7 +95,10 @@ pub fn hexadecimal(object: &Value, name: &'static str) -> Result<u64, Refusal>
 
 /// Returns an address that may be left out.
 #[tactic(auto, unfolding(crate::specs::Fields::optional_field_as))]
-pub(crate) fn optional_hexadecimal(object: &Value, name: &'static str) -> Result<Option<u64>, Refusal>
+pub(crate) fn optional_hexadecimal(
+    object: &Value,
+    name: &'static str,
+) -> Result<Option<u64>, Refusal>
     ensures { told result ≡ optional_field_as address name.entry.now (view object.now) }
 {
     match object.get(name) {

@@ -86,7 +86,12 @@ pub(crate) fn caller_at<S: UnwindContextStorage, M: WordMemory>(
     match find_row(&frames, 0, address, section.fde, &mut context) {
         Ok(true) => {
             let caller = caller_by_row(
-                alloc, convention, section.bytes, context.row(), regs, memory,
+                alloc,
+                convention,
+                section.bytes,
+                context.row(),
+                regs,
+                memory,
             );
             Ok(caller.map_err(|refusal| NoCaller::ByRow(refusal)))
         }

@@ -63,20 +63,19 @@ loop-next-preserved g c =
     let inside = inside-there c.args.section.now c.args.fde.now _ _ bytes bases c.loop-next.next c.loop-next-test.true in
     let reads = reads-there c.args.section.now c.args.fde.now _ _ bytes bases c.loop-next.next _ (sym c.in_ok-instruction.ensures.exact) in
     let inv = c.loop-next.invariant in
-    let needed = list_needs_room (instructions_of_fde c.args.section.now c.args.fde.now c.args.cursor.location) c.args.cursor.next c.args.cursor.location in
-    (
+    let needed = list_needs_room (instructions_of_fde c.args.section.now c.args.fde.now c.args.cursor.location) c.args.cursor.next c.args.cursor.location in (
       λ reached.
-      reaches-on g.S.UnwindContextStorage.limits c.args.section.now c.args.fde.now c.loop-next.next c.args.cursor.location c.in_ok-instruction.after
-      c.in_ok-moved.moved c.in_ok-instruction.instruction c.loop-next.self c.execute.new.self
-      inside reads (sym c.in_ok-moved.ensures.exact) (omega arith) c.in_ok-execute.ensures.exact (inv.0 reached),
+          reaches-on g.S.UnwindContextStorage.limits c.args.section.now c.args.fde.now c.loop-next.next c.args.cursor.location c.in_ok-instruction.after
+          c.in_ok-moved.moved c.in_ok-instruction.instruction c.loop-next.self c.execute.new.self
+          inside reads (sym c.in_ok-moved.ensures.exact) (omega arith) c.in_ok-execute.ensures.exact (inv.0 reached),
       room-on g.S.UnwindContextStorage.limits c.args.section.now c.args.fde.now inv.1.0 c.loop-next.next c.args.cursor.location
-      c.in_ok-instruction.after c.in_ok-moved.moved c.in_ok-instruction.instruction needed inv.1.1 inside reads
-      (sym c.in_ok-moved.ensures.exact) (omega arith) inv.1.2,
+          c.in_ok-instruction.after c.in_ok-moved.moved c.in_ok-instruction.instruction needed inv.1.1 inside reads
+          (sym c.in_ok-moved.ensures.exact) (omega arith) inv.1.2,
       λ began none.
-      room-forgets g.S.UnwindContextStorage.limits c.args.section.now c.args.fde.now inv.1.0 c.loop-next.next c.args.cursor.location
-      c.in_ok-instruction.after c.in_ok-moved.moved c.in_ok-instruction.instruction needed inv.1.1 inside reads
-      (sym c.in_ok-moved.ensures.exact) (omega arith) inv.1.2 c.loop-next.self c.execute.new.self
-      c.in_ok-execute.ensures.exact none (inv.2 began none),
+          room-forgets g.S.UnwindContextStorage.limits c.args.section.now c.args.fde.now inv.1.0 c.loop-next.next c.args.cursor.location
+          c.in_ok-instruction.after c.in_ok-moved.moved c.in_ok-instruction.instruction needed inv.1.1 inside reads
+          (sym c.in_ok-moved.ensures.exact) (omega arith) inv.1.2 c.loop-next.self c.execute.new.self
+          c.in_ok-execute.ensures.exact none (inv.2 began none),
     )
 
 -- a row was remembered before, or an instruction needs room
