@@ -48,7 +48,7 @@ NUMBERS = "none one two three four five six seven eight nine ten eleven twelve".
 # how many commands have their output in a document, at least
 LEAST_SHOWN = 8
 # the lines of an edit that are no text: checks/edits/try says what they are for
-EDIT_KEYS = {"fn", "gate", "alone", "harmless"}
+EDIT_KEYS = {"fn", "gate", "alone", "harmless", "says", "tests"}
 # words of a name in backticks that are not names of this repository: Rust's, and values of arguments
 FOREIGN = set("Err None Some Ok Option Result Vec u8 u16 u32 u64 usize for true false null".split())
 
