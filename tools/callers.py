@@ -229,9 +229,18 @@ def public_items(file):
         yield number + 1, item[2], item[3], "\n".join(lines[number : end + 1])
 
 
+def words_of(crate):
+    """The words of a crate's sources, and those that its definitions and proofs bring in."""
+    found = {word for file in files(crate) for word in WORD.findall(without_words(file.read_text()))}
+    for file in crate.rglob("*.antt"):
+        for use in re.findall(r"^use ([^}]*\})", file.read_text(), re.M):
+            found.update(WORD.findall(use))
+    return found
+
+
 def words_outside():
-    """The words of each crate's sources, and those of bindings and benchmarks."""
-    inside = {crate.name: {word for file in files(crate) for word in WORD.findall(without_words(file.read_text()))} for crate in crates()}
+    """The words of each crate, and those of bindings and benchmarks."""
+    inside = {crate.name: words_of(crate) for crate in crates()}
     others = set()
     for folder in ("bindings", "bench"):
         for file in (TOP / folder).rglob("*"):

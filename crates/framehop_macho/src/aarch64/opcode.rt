@@ -5,7 +5,7 @@ ghost use Rattle.framehop_macho.specs.Aarch64.{opcode_of};
 
 /// How to unwind from a function.
 #[derive(Clone, Copy, Debug, PartialEq, Eq)]
-pub(crate) enum OpcodeArm64 {
+pub enum OpcodeArm64 {
     /// The function has no info.
     Null,
     /// The function has no frame (UNWIND_ARM64_MODE_FRAMELESS).
