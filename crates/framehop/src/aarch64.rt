@@ -1,4 +1,4 @@
-//! Types for unwinding on the aarch64 CPU architecture.
+//! Unwinding on aarch64: the unwinder and its cache, with the registers and the rules of the crate below.
 pub mod cache;
 pub mod unwinder;
 

@@ -1,4 +1,4 @@
-//! Types for unwinding on the x86_64 CPU architecture.
+//! Unwinding on x86_64: the unwinder and its cache, with the registers and the rules of the crate below.
 pub mod cache;
 pub mod unwinder;
 

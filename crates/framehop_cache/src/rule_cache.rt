@@ -352,7 +352,7 @@ impl<R: UnwindRule> Slot<R> {
     }
 }
 
-/// Statistics about the effectiveness of the rule cache. The counts stop at the largest `u64`.
+/// How many lookups have hit, and how many have missed for which reason. Each count stops at the largest `u64`.
 #[derive(Default, Debug, Clone, Copy)]
 pub struct CacheStats {
     /// How many lookups hit.

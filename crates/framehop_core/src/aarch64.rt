@@ -1,4 +1,4 @@
-//! Types for unwinding on the aarch64 CPU architecture.
+//! What unwinding on aarch64 needs: the registers that it follows, and its rules.
 pub mod arch;
 pub mod unwind_rule;
 pub mod unwindregs;

@@ -58,7 +58,7 @@ impl FrameAddress {
         }
     }
 
-    /// Returns whether this address is a return address.
+    /// Tells the frame of a caller, of which the return address is known, from the first frame.
     pub fn is_return_address(self) -> bool
         ensures { result ≡ is_return_address (location_of self) }
     {

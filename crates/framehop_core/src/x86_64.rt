@@ -1,4 +1,4 @@
-//! Types for unwinding on the x86_64 CPU architecture.
+//! What unwinding on x86_64 needs: the registers that it follows, and its rules.
 pub mod arch;
 pub mod register_ordering;
 pub mod unwind_rule;

@@ -263,10 +263,10 @@ fn is_in_auth_tail_call_after(text_bytes: &[u8], pc_offset: usize, before: usize
 /// then a tail call. The function could as well return at any of these instructions.
 ///
 /// ```text
-/// ff 23 03 d5      autibsp
-/// d0 07 1e ca      eor        x16, lr, lr, lsl #1
-/// 50 00 f0 b6      tbz        x16, 0x3e, $+0x8
-/// 20 8e 38 d4      brk        #0xc471              ; \"breakpoint trap\"
+/// D50323FF    autibsp
+/// CA1E07D0    eor x16, x30, x30, lsl #1
+/// B6F00050    tbz x16, #62, to the tail call
+/// D4388E20    brk #0xc471
 /// ```
 ///
 /// The tail call is `b`, or `mov x16, #imm` and `braa xN, x16`.
