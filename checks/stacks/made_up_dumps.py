@@ -129,6 +129,7 @@ files = {
     "timer.core": with_siginfo(34, -2, bytes(8)),
     "unknown.core": with_siginfo(11, 77, struct.pack("<Q", 0x1234)),
     "abort.dmp": with_streams("crash.dmp", [(6, exception(31455, 6, 0xfffffffa, 31455))], [6]),
+    "stopped.dmp": with_streams("crash.dmp", [(6, exception(31455, 19, 0, 0))], [6]),
     "fault.dmp": with_streams("crash.dmp", [(6, exception(31455, 11, 1, 0x10))], [6]),
     "names.dmp": with_streams("small.dmp", [(24, thread_names((284, "first"), (244, "UI thread"), (248, "größe\x1b[31m"), (284, "writer")))]),
     "checksum.dmp": with_checksum("crash.dmp", zlib.crc32(program)),

@@ -102,9 +102,13 @@ abbrev pub sent_of : Exception → Option Sent
 sent_of exception =
     if exception.flags == 0 then None else Some (record { code = exception.flags; fields = exception.address })
 
+-- the signals that stop a process and end none: SIGSTOP, SIGTSTP, SIGTTIN and SIGTTOU of signal(7)
+abbrev pub only_stops : ℕ → Bool
+only_stops number = nat_le 19 number && nat_le number 22
+
 abbrev pub signal_of : Exception → Option WhyEnded
 signal_of exception =
-    if (exception.code == 0) || (exception.code == DUMP_REQUESTED) then None
+    if (exception.code == 0) || ((exception.code == DUMP_REQUESTED) || only_stops exception.code) then None
     else Some (cause.Signal (record { number = exception.code; sent = sent_of exception }))
 
 -- The first two parameters of an exception of Windows, if they tell of an access to memory: EXCEPTION_ACCESS_VIOLATION and

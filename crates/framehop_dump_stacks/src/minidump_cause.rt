@@ -1,6 +1,6 @@
 //! Why the thread of a minidump ended: the signal or the exception of its exception stream.
 ghost use Rattle.std.specs.Prelude.{◌≡◌};
-ghost use Rattle.framehop_dump_stacks.specs.Minidump.{sent_of, signal_of, access_of, windows_exception, cause_by, cause_of};
+ghost use Rattle.framehop_dump_stacks.specs.Minidump.{sent_of, only_stops, signal_of, access_of, windows_exception, cause_by, cause_of};
 
 use crate::dump::{Access, Cause, Exception as WindowsException, Sent, Signal};
 use crate::minidump::WINDOWS;
@@ -15,6 +15,12 @@ const ANDROID: u32 = 0x8203;
 /// The code of a minidump of Linux that was asked for without a crash, `MD_EXCEPTION_CODE_LIN_DUMP_REQUESTED` of
 /// Breakpad.
 const DUMP_REQUESTED: u32 = 0xffff_ffff;
+
+/// The first of the signals that stop a process.
+const SIGSTOP: u32 = 19;
+
+/// The last of them.
+const SIGTTOU: u32 = 22;
 
 /// `EXCEPTION_ACCESS_VIOLATION`.
 const ACCESS_VIOLATION: u32 = 0xc000_0005;
@@ -43,18 +49,28 @@ fn cause_by(platform: u32, exception: Exception) -> Option<Cause>
     }
 }
 
-/// Returns what an exception of Linux is the cause of: the signal of its code, if there is one.
+/// Returns what an exception of Linux is the cause of: the signal of its code, if there is one, and it does not only stop the
+/// process, as debuggers do that write minidumps of living ones.
 fn signal_of(exception: Exception) -> Option<Cause>
     ensures { result ≡ signal_of exception }
 {
-    match exception.code {
-        0 => None,
-        DUMP_REQUESTED => None,
-        number => Some(Cause::Signal(Signal {
-            number,
-            sent: sent_of(exception),
-        })),
+    let number = exception.code;
+    if number == 0 || number == DUMP_REQUESTED || only_stops(number) {
+        return None;
     }
+    Some(Cause::Signal(Signal {
+        number,
+        sent: sent_of(exception),
+    }))
+}
+
+/// Returns whether a signal stops a process that does not handle it, and ends none: SIGSTOP, SIGTSTP, SIGTTIN or SIGTTOU.
+///
+/// Source: signal(7), "Standard signals".
+fn only_stops(number: u32) -> bool
+    ensures { result ≡ only_stops number }
+{
+    SIGSTOP <= number && number <= SIGTTOU
 }
 
 /// Returns why the signal of an exception of Linux was sent, if its flags tell it.
