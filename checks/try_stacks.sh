@@ -224,6 +224,9 @@ for program in "$@"; do
     try 0 "$checks/stacks/crash.stacks" any --root srv --root . crash.core
     try 0 "$checks/stacks/crash.stacks" any --root srv --exec usr/local/bin/crash crash.core
     try 0 "$checks/stacks/crash.missing" any --root srv --exec srv/tiny crash.core
+    (cd "$data" && "$program" --root srv --exec srv/tiny crash.core 2>&1 >/dev/null) |
+        grep -qx "framehop-stacks: srv/tiny: no mapped file that was asked for has its build id or, where none is known, its name" ||
+        { echo "$program: it does not say that --exec names no mapped file" >&2; failed=1; }
     try 0 "$checks/stacks/crash.missing" any --root "$work/other" crash.core
     try 0 "$checks/stacks/crash.missing" any --root "$work/leads-out" crash.core
     try 0 "$checks/stacks/crash.stacks" any --root "$work/leads-in" crash.core

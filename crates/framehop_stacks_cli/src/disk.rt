@@ -9,6 +9,7 @@ use framehop_symbols::files::{FileSource, is_vdso, is_windows_path};
 use framehop_symbols::made_up_id::is_made_up;
 use framehop_symbols::object_file::build_id_of;
 use std::alloc::{AllocError, Global};
+use std::cell::Cell;
 use std::io::{ErrorKind, Write};
 use std::path::PathBuf;
 use std::{fs, io};
@@ -27,6 +28,8 @@ const DEBUG_DIR: &str = "/usr/lib/debug";
 pub struct Program<'a> {
     pub path: &'a str,
     pub bytes: Vec<u8>,
+    /// Whether a mapped file was asked for that it is.
+    pub is_mapped: Cell<bool>,
 }
 
 /// The files of a disk.
@@ -135,10 +138,13 @@ impl Disk<'_> {
         } else {
             build_id_of(alloc, bytes)? == build_id
         };
-        if is_the_program
-            && self
-                .known_names
-                .allow(alloc, program.path.as_bytes(), name)?
+        if !is_the_program {
+            return Ok(None);
+        }
+        program.is_mapped.set(true);
+        if self
+            .known_names
+            .allow(alloc, program.path.as_bytes(), name)?
         {
             Ok(Some(Vec::from_slice(alloc, bytes)?))
         } else {

@@ -42,6 +42,7 @@ use messages::Messages;
 use printed::printed_text;
 use recordings::{print_recording, print_recording_parts};
 use speedscope::speedscope_file;
+use std::cell::Cell;
 use std::io::{BufWriter, Write};
 use std::path::PathBuf;
 use std::process::ExitCode;
@@ -126,17 +127,39 @@ fn run(rt: &HostRuntime) -> Result<u8> {
     } else {
         Form::Text
     };
-    if matches.get_flag("diff") {
-        return print_changes(rt, paths, &disk, &asked, options, form);
-    }
-    print_all(rt, paths, &disk, &asked, options, form)
+    let status = if matches.get_flag("diff") {
+        print_changes(rt, paths, &disk, &asked, options, form)?
+    } else {
+        print_all(rt, paths, &disk, &asked, options, form)?
+    };
+    tell_unmapped(rt, disk.program.as_ref())?;
+    Ok(status)
 }
 
 /// Reads the file of the main program, or says why it can't be read, and returns the status.
 fn read_program<'a>(rt: &HostRuntime, path: &'a str) -> Result<Result<Program<'a>, u8>> {
     match read_input(rt, path)? {
-        Ok(bytes) => Ok(Ok(Program { path, bytes })),
+        Ok(bytes) => Ok(Ok(Program {
+            path,
+            bytes,
+            is_mapped: Cell::new(false),
+        })),
         Err(status) => Ok(Err(status)),
+    }
+}
+
+/// Says that the file of the main program was taken for no mapped file, if one is named and it was not.
+fn tell_unmapped(rt: &HostRuntime, program: Option<&Program<'_>>) -> Result<()> {
+    match program {
+        Some(program) if !program.is_mapped.get() => {
+            writeln!(
+                Messages { rt },
+                "framehop-stacks: {}: no mapped file that was asked for has its build id or, where none is known, its name",
+                program.path
+            )?;
+            Ok(())
+        }
+        _ => Ok(()),
     }
 }
 
