@@ -118,7 +118,7 @@ made=$work/made
 mkdir "$made" || exit 1
 dumps=$work/dumps
 mkdir "$dumps" && python3 "$checks/stacks/made_up_dumps.py" "$data" "$dumps" || exit 1
-for case in cut short_comm short_fork lost files lines long build_ids chains kernel full events jit; do
+for case in cut short_comm short_fork lost files lines long build_ids chains kernel full events jit threads; do
     python3 "$checks/stacks/made_up_recording.py" "$made/$case.data" "$case" || exit 1
 done
 python3 - "$work" <<'END' || exit 1
@@ -207,6 +207,8 @@ printf '%s\n' "app;[could-not-read-stack];app+0x12ff;app+0x1203;app+0x1124 1" "$
 printf '%s\n' "/srv/app: can't be read" '2 samples, 0 records lost by the kernel' '2 samples with frames that no unwind data tells' 'how the stacks ended:' \
     'could-not-read-stack 1' 'frame-pointer-0 1' '1 samples end where the copy of their stack does: perf record --call-graph dwarf,65528 copies more' >"$work/full.errors"
 printf '%s\n' "$whole 1" >"$work/first"
+printf '%s\n' 'app;[frame-pointer-0];app+0x1203;app+0x1128 1' >"$work/second"
+cat "$work/first" "$work/second" >"$work/both"
 printf '%s\n' 'app;[frame-pointer-0];app+0x1203;app+0x1128 2' >"$work/later"
 printf '%s\n' "$whole 1" 'app;[frame-pointer-0];app+0x1203;app+0x1128 2' >"$work/all"
 printf '%s\n' 'app-200/200;[frame-pointer-0];app+0x1203;app+0x1124 1' 'other-200/200;[no-caller];[unknown] 1' >"$work/threads"
@@ -376,6 +378,10 @@ for program in "$@"; do
     try_in "$made" 0 "$work/later" any --time 0.00000002, events.data
     try_in "$made" 0 "$work/nothing" any --time 0.000000021,0.000000029 events.data
     try_in "$made" 0 "$work/nothing" any --tid 101 events.data
+    try_in "$made" 0 "$work/first" any --tid 100 threads.data
+    try_in "$made" 0 "$work/second" any --tid 101 threads.data
+    try_in "$made" 0 "$work/both" any --pid 100 threads.data
+    try_in "$made" 0 "$work/nothing" any --pid 101 threads.data
     try_in "$made" 0 "$work/all" any --pid 7 --pid 100 --tid 100 --comm app events.data
     try_in "$made" 0 "$work/nothing" any --pid 100 --comm ap events.data
     try 0 "$work/threads" any --by-thread --pid 200 made-up.data

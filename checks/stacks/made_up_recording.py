@@ -17,6 +17,7 @@ order of their times. The cases, whose output `checks/try_stacks.sh` has:
     kernel      samples with a copy of the stack, and a call chain of the kernel
     full        samples of whose stacks as much was copied as was asked for, of which one goes on
     events      samples of two events, which have names
+    threads     a sample of each of two threads of a process
     jit         samples in code of no file, for which `perf-300.map` of made_up_map.txt has names, and a process without such a map
 
 Layout: Linux, include/uapi/linux/perf_event.h, and tools/perf/Documentation/perf.data-file-format.txt.
@@ -66,12 +67,18 @@ def lost(count, pid, time):
     return identified(PERF_RECORD_LOST, 0, struct.pack("<QQ", 0, count), pid, time)
 
 
-def sample(pid, time, pc, links):
-    """A sample whose frame records, pairs of the caller's frame pointer and a return address, begin at the stack pointer."""
+def thread(pid, tid, time):
+    """A thread of a process begins."""
+    return identified(PERF_RECORD_FORK, 0, struct.pack("<IIIIQ", pid, pid, tid, pid, time), pid, time)
+
+
+def sample(pid, time, pc, links, tid=None):
+    """A sample whose frame records, pairs of the caller's frame pointer and a return address, begin at the stack pointer; of
+    the first thread, if none is named."""
     stack = b"".join(struct.pack("<QQ", *link) for link in links)
     registers = [0] * 33
     registers[29], registers[31], registers[32] = STACK, STACK, pc
-    body = struct.pack("<QIIQQ", pc, pid, pid, time, 2) + struct.pack("<33Q", *registers)
+    body = struct.pack("<QIIQQ", pc, pid, tid or pid, time, 2) + struct.pack("<33Q", *registers)
     return record(PERF_RECORD_SAMPLE, IN_USER_SPACE, body + struct.pack("<Q", len(stack)) + stack + struct.pack("<Q", len(stack)))
 
 
@@ -231,7 +238,13 @@ def jit():
     ]
 
 
-CASES = {"short_comm": short_comm, "short_fork": short_fork, "lost": lost_twice, "files": files, "lines": lines, "long": long, "build_ids": unread_build_ids, "chains": chains, "kernel": kernel, "full": full, "events": events, "jit": jit}
+def threads():
+    whole = [(STACK + 16, 0x10204), (0, 0x10300)]
+    begun = [comm(100, "app", 1), mapping(100, 0x10000, 0x3000, 0x1000, "/srv/app", 2), thread(100, 101, 3)]
+    return begun + [sample(100, 10, 0x10124, whole), sample(100, 20, 0x10128, whole, 101)]
+
+
+CASES = {"short_comm": short_comm, "short_fork": short_fork, "lost": lost_twice, "files": files, "lines": lines, "long": long, "build_ids": unread_build_ids, "chains": chains, "kernel": kernel, "full": full, "events": events, "jit": jit, "threads": threads}
 
 
 def event_names(names, ids):
