@@ -1,5 +1,25 @@
 //! A stack frame unwinder: from registers, stack words and the unwind data of loaded modules to
 //! the return addresses of a call stack.
+//!
+//! An **AVMA** (actual virtual memory address) is where something is in the running process, an
+//! **SVMA** (stated virtual memory address) where its file says; a **relative address** counts from
+//! the module's base. Calls take and return AVMAs unless they say otherwise.
+//!
+//! # What the caller must see to
+//!
+//! - **Modules**: `add_module` before the first walk through a module, `remove_module` when it is
+//!   unloaded. A section returns the same bytes each time (`SectionBytes`).
+//!   `ExplicitModuleSectionInfo` has no `.pdata`: for Windows implement `ModuleSectionInfo`.
+//! - **Generations**: all unwinders that share a cache draw from one `Generations`.
+//! - **The stack**: the callback gives the same word at an address throughout a walk. Copy the
+//!   stack, or keep its thread stopped.
+//! - **Pointer authentication** on aarch64: `UnwindRegsAarch64::new` strips nothing. Use
+//!   `new_with_ptr_auth_mask`, with a mask such as
+//!   `PtrAuthMask::from_max_known_address(unwinder.max_known_code_address())`.
+//! - **Limits**: a walk on x86_64 needs one.
+//! - **Threads**: an unwinder, its modules and its cache stay on one thread.
+//! - **Signals**: a signal frame is unwound as any frame. Calls in a signal handler: no claim; that
+//!   a step under `MustNotAllocateDuringUnwind` takes no memory is tested, not proved.
 #![tactic(auto)]
 
 pub mod aarch64;
