@@ -20,6 +20,23 @@
 //! - **Threads**: an unwinder, its modules and its cache stay on one thread.
 //! - **Signals**: a signal frame is unwound as any frame. Calls in a signal handler: no claim; that
 //!   a step under `MustNotAllocateDuringUnwind` takes no memory is tested, not proved.
+//!
+//! # Decisions
+//!
+//! - A module's unwind data is a function of the table of its sections. Data is handed out once, so
+//!   a name that is asked later sees the table without what was taken before. A section whose index
+//!   is refused is no unwind data: `.debug_frame` is not asked then, as in the crate.
+//! - `exec` is inlined and a miss is a call of its own, so that on a hit the rule never leaves the
+//!   processor's registers.
+//! - The starts of modules are in a list of their own, in the same order: a search reads eight
+//!   bytes a module that it passes.
+//! - `Module::unwind_by_data` is one flat `match` over the kinds of unwind data: each arm hands on
+//!   its arguments and does nothing else.
+//! - The words of a command are the whole memory of its step or walk.
+//! - Tried: a miss that is called and not inlined (3 ns more a frame: its handle goes over memory);
+//!   a list of modules instead of pointers and a list of starts (two to six times the time to add
+//!   and remove); halving the starts in place of quarters (34 ns for 16); a copy of the registers
+//!   for a module's data (no gain).
 #![tactic(auto)]
 
 pub mod aarch64;
