@@ -317,21 +317,26 @@ class Names:
         return sorted(found.items())
 
 
+def about(file):
+    """What a file's head says, with headings below those of the page."""
+    return [re.sub("^# ", "## ", line) for line in re.findall(r"^//! ?(.*)", file.read_text(), re.M)]
+
+
 def anchor(path):
     return path.replace("::", "").lower()
 
 
 def crate_lines(crate, definitions, names_of_all, links, link_to_item, left_out=()):
     source = TOP / "crates" / crate / "src"
-    page = [f"# `{crate}`", "", *re.findall(r"^//! ?(.*)", (source / "lib.rt").read_text(), re.M)]
+    page = [f"# `{crate}`", "", *about(source / "lib.rt")]
     for file, path, names in modules(source / "lib.rt", crate):
         if path in left_out:
             continue
         items = module_page(file, path, names, definitions, links)
         named = names_of_all.named(path) if names is None else []
         if items or named:
-            about = re.findall(r"^//! ?(.*)", file.read_text(), re.M) if file.name != "lib.rt" else []
-            page += ["", f"## `{path}`", "", *about, *items]
+            said = about(file) if file.name != "lib.rt" else []
+            page += ["", f"## `{path}`", "", *said, *items]
         if named:
             page += ["", "Under names of this module, too:", "", *(f"- {link_to_item(name, at)}" for name, at in named)]
     return page

@@ -11,7 +11,7 @@ check_docs.py [--run [PROGRAM..]].
 - docs/house.svg has the crates, what stands on what, and the lines that tools/house.py draws.
 - No stored file has the environment of a process.
 - The Rust of README.md, of docs/EXAMPLES.md and of the doc comments' examples is in the tests, line by line.
-- No line of a document has more than 100 words, tables and code excepted.
+- No line of a document has more than 100 words, tables and code excepted; and no document more words than LIMITS says.
 - docs/api/framehop.md is what tools/api.py makes, and has each name that the tests name there; docs/DEFINITIONS.md and
   the list of tests in docs/TESTED.md are what tools/definitions.py and tools/tested.py make.
 - The pages that the two make of all crates, in a folder of their own here, have no dead link, each public method, and each
@@ -56,6 +56,32 @@ PATHS = TOP / "crates/framehop_vectors/src/paths.rt"
 FENCE = re.compile(r"^```.*?^```", re.M | re.S)
 WORD = re.compile(r"[^\W\d][\w'-]*")
 NUMBERS = "none one two three four five six seven eight nine ten eleven twelve".split()
+# how many words the pages may have, one or several together
+LIMITS = {
+    ("README.md",): 900,
+    ("docs/PROVED.md",): 6000,
+    ("docs/DECISIONS.md",): 4000,
+    ("docs/FORMATS.md",): 3500,
+    ("docs/PROGRAMS.md",): 4500,
+    ("docs/REAL.md",): 2000,
+    ("docs/TESTED.md",): 2000,
+    ("docs/SPEED.md",): 2000,
+    ("docs/ARCHITECTURE.md",): 2500,
+    ("docs/DIFFERENCES.md",): 1800,
+    ("docs/CHANGING.md",): 1200,
+    ("docs/GATE.md",): 800,
+    ("docs/CHECK.md",): 1000,
+    ("docs/EXAMPLES.md",): 900,
+    ("docs/READING.md", "docs/DEFINITIONS.md"): 1450,
+    ("CONTRIBUTING.md", "docs/VERSIONS.md"): 600,
+    ("docs/api/framehop.md",): 10000,
+    ("bindings/README.md",): 1600,
+    ("checks/cases/README.md",): 700,
+    ("checks/edits/README.md",): 400,
+    ("checks/squares/README.md",): 300,
+}
+# all of them together, without the page of docs/api
+MOST_WORDS = 35000
 # how many commands have their output in a document, at least
 LEAST_SHOWN = 8
 # the lines of an edit that are no text: checks/edits/try says what they are for
@@ -69,8 +95,8 @@ ENVIRONMENT = re.compile(rb"(?:^|[\0\n])(?:HOME|PWD|PATH|USER|LOGNAME|SHELL|HOST
 
 
 def documents():
-    readmes = [TOP / "README.md", TOP / "CHANGELOG.md", TOP / "bindings/README.md", TOP / "checks/cases/README.md", TOP / "checks/edits/README.md"]
-    return [*readmes, *sorted(TOP.glob("docs/*.md")), MADE]
+    top = [TOP / "README.md", TOP / "CHANGELOG.md", TOP / "CONTRIBUTING.md", TOP / "bindings/README.md"]
+    return [*top, *sorted(TOP.glob("checks/*/README.md")), *sorted(TOP.glob("docs/*.md")), MADE]
 
 
 def without_code(text):
@@ -167,6 +193,20 @@ def long_lines(text):
         words = len(line.split())
         if words > 100 and not line.startswith("|"):
             yield f"line {number} has {words} words"
+
+
+def too_many_words():
+    """Pages that are longer than their limit, and pages without one; what has changed (CHANGELOG.md) may grow."""
+    counts = {name: len((TOP / name).read_text().split()) for names in LIMITS for name in names}
+    for names, limit in LIMITS.items():
+        count = sum(counts[name] for name in names)
+        if count > limit:
+            yield f"{' and '.join(names)}: {count} words, where {limit} are the limit"
+    count = sum(counts.values()) - counts["docs/api/framehop.md"]
+    if count > MOST_WORDS:
+        yield f"all pages: {count} words, where {MOST_WORDS} are the limit"
+    names = {str(page.relative_to(TOP)) for page in documents()}
+    yield from (f"{name}: no limit of its words" for name in sorted(names - {*counts, "CHANGELOG.md"}))
 
 
 def untested_examples():
@@ -401,6 +441,7 @@ def faults():
         checks.append(callers.lost_paths(text))
         checks.append(missing_names(text, known) if name in NAMED else missing_long_names(text, known))
         yield from (f"{name}: {fault}" for check in checks for fault in check)
+    yield from too_many_words()
     yield from (f"README.md, docs/EXAMPLES.md: {fault}" for fault in untested_examples())
     yield from (f"docs/ARCHITECTURE.md: {fault}" for fault in crates_without_a_row())
     yield from (f"docs/EXAMPLES.md: {fault}" for fault in wrong_libraries())

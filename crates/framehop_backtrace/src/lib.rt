@@ -3,6 +3,19 @@
 //!
 //! They take the library's step where the modules have no row for a frame. Nothing is stored in the library's cache but
 //! by its own steps.
+//!
+//! # Decisions
+//!
+//! - A frame has two sets of registers: columns, each known or not, by which rows are evaluated;
+//!   and those of the library's step. So a walk without rows is the library's. After such a step
+//!   only pc, sp and fp are known, and lr of aarch64.
+//! - A guess is only made at a first frame, since the rule of a function's start follows the frame
+//!   pointer at others; where its return address is not right after a call, the frame pointer must
+//!   lead to one that is.
+//! - A return address is in code if the byte before it is, or it itself, as that of a trampoline at
+//!   the beginning of a mapping.
+//! - Rows come from a trait (`Rows`), so that call frames that the library leaves out can be a
+//!   second source (`OrElse`).
 #![tactic(auto)]
 
 pub mod aarch64;

@@ -1,4 +1,14 @@
 //! Processes, of a recording or a dump: which files are mapped in each, and an unwinder with their modules.
+//!
+//! # Decisions
+//!
+//! - What lies outside of a new mapping stays, as the kernel has it: where a program makes a page
+//!   of its code writable and back, the rest of the code keeps its module. A mapping has the base
+//!   of its module, and not its offset in the file.
+//! - A change is made to a copy of the unwinder, so a refusal leaves the process as it was;
+//!   `Process::mapped` takes the process and copies none.
+//! - Modules are made by a trait (`ModuleMaker`), so that this crate knows no file format. Mappings
+//!   that can't be executed are not to be given.
 #![tactic(auto)]
 
 mod around;

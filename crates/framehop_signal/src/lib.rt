@@ -3,6 +3,11 @@
 //!
 //! A handler returns to a trampoline, which calls `rt_sigreturn`. Its stack pointer is then where the kernel saved the
 //! registers of the interrupted code.
+//!
+//! # Decisions
+//!
+//! - A trampoline is known by its instructions, as gdb and LLVM's libunwind know it: not every C
+//!   library has the row that tells it.
 #![tactic(auto)]
 
 pub mod aarch64;

@@ -1,4 +1,4 @@
-//! The examples of the README, as they are printed there, and a walk on aarch64.
+//! The examples of docs/EXAMPLES.md, as they are printed there, and a walk on aarch64.
 use crate::unwinders::{Aarch64, binary, holds, read_stack, sections_of_binary};
 use framehop::aarch64::{CacheAarch64, UnwindRegsAarch64, UnwinderAarch64};
 use framehop::x86_64::{CacheX86_64, UnwindRegsX86_64, UnwinderX86_64};

@@ -1,4 +1,4 @@
-//! The README's example of an ELF file, as it is printed there.
+//! The example of an ELF file of docs/EXAMPLES.md.
 use crate::elf::program::PROGRAM;
 use crate::pieces::holds;
 use framehop::x86_64::{CacheX86_64, UnwindRegsX86_64, UnwinderX86_64};

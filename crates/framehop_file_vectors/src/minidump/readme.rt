@@ -1,4 +1,4 @@
-//! The README's example of a minidump, as it is printed there, and a test of it: from the minidump of
+//! The example of a minidump of docs/EXAMPLES.md, and a test of it: from the minidump of
 //! `x86_64` to the frames that LLDB prints by `thread backtrace all`.
 use crate::elf::unwinder_of;
 use crate::minidump::x86_64::dump;
