@@ -1,13 +1,16 @@
-use Rattle.std.proofs.Common.{ℕ, List, subst}
+use Rattle.std.proofs.Common.{ℕ, List, inr, map, subst}
 use Rattle.std.specs.Io.KnownBytes.{Appends}
-use Rattle.framehop_dump_stacks.specs.Dump.{DumpView}
+use Rattle.framehop_dump_stacks.specs.Dump.{DumpView, dump_view}
+use Rattle.framehop_dump_stacks.specs.Ended.{drawn_in, MayEnd, MayEndWithModules}
+use Rattle.framehop_dump_stacks.specs.Minidump.{loaded_view}
 use Rattle.framehop_dump_stacks.specs.Modules.{mappings_in}
 use Rattle.framehop_dump_stacks.specs.Problems.{IsSaid}
 use Rattle.framehop_dump_stacks.specs.Report.{stacks_in}
+use Rattle.framehop_dump_stacks.proofs.EndLemmas.{failed_as}
 use Rattle.framehop_dump_stacks.proofs.reporting.report_minidump.Goals as goal
 
-pub returns : goal.returns
-returns g c =
+pub returns-clause-printed : goal.returns-clause-printed
+returns-clause-printed g c =
     let files = c.in_ok-files.files in
     let P : DumpView → Type 0 = λ d. ((text : List ℕ) × g.R.Report.makes c.args.report.now d files (mappings_in d files) (stacks_in c.args.limit d files) text
     × Appends (g.W.Write.contents c.args.out.now) (g.W.Write.contents c.report_dump_stacks.new.out) text)
@@ -15,3 +18,12 @@ returns g c =
     × Appends (g.E.Write.contents c.args.err.now) (g.E.Write.contents c.report_dump_stacks.new.err) said) in
     let both = subst P c.in_ok-whole.ensures (c.in_ok-report_dump_stacks.ensures.printed, c.in_ok-report_dump_stacks.ensures.said) in
     (files, c.in_ok-files.ensures, both.0, both.1)
+
+pub returns-in_err-report_dump_stacks-clause-refused : goal.returns-in_err-report_dump_stacks-clause-refused
+returns-in_err-report_dump_stacks-clause-refused g c =
+    let e = c.in_err-report_dump_stacks.field-0.0 in
+    let source = g.S.FileSource.source c.args.source.now in
+    let files = c.in_ok-files.files in
+    let may = subst (λ (d : DumpView). MayEnd (drawn_in d files) e) c.in_ok-whole.ensures c.in_err-report_dump_stacks.ensures.refused in
+    failed_as c.from_residual-in_err-report_dump_stacks.result e (MayEndWithModules source (dump_view c.args.dump, map loaded_view c.args.modules.now)) c.from_residual-in_err-report_dump_stacks.ensures.1
+    (inr (files, c.in_ok-files.ensures, may))
