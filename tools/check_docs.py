@@ -83,7 +83,7 @@ LIMITS = {
 # all of them together, without the page of docs/api
 MOST_WORDS = 35000
 # how many commands have their output in a document, at least
-LEAST_SHOWN = 8
+LEAST_SHOWN = 14
 # the lines of an edit that are no text: checks/edits/try says what they are for
 EDIT_KEYS = {"fn", "gate", "alone", "harmless", "says", "tests"}
 # words of a name in backticks that are not names of this repository: Rust's, and values of arguments

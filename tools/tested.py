@@ -18,7 +18,7 @@ SCRIPTS = ["checks/*.sh", "checks/*.py", "checks/code/*.py", "checks/stacks/judg
 # those of them that only make data, or that another one calls
 LEFT_OUT = {"make_prologs.py", "make_stack.py", "walk.py", "walk_core.py"}
 # so many words of a head are shown, where a comma allows it
-SHOWN = 12
+SHOWN = 11
 
 
 def beginning(text):
