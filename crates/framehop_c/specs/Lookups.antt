@@ -1,5 +1,5 @@
 -- The numbers by which C is told how a lookup of the cache has ended.
-use Rattle.std.specs.Prelude.{ℕ, ℤ, pos, if◌then◌else◌, ◌==◌}
+use Rattle.std.specs.Prelude.{ℤ, pos, if◌then◌else◌, ◌==◌}
 use Rattle.framehop_cache.specs.declared.rule_cache.CacheStats.{CacheStats}
 
 abbrev pub no_lookup : ℤ

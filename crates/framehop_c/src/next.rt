@@ -1,17 +1,17 @@
 //! The frame that called another, and the words that the step from it will ask for.
 ghost use Rattle.std.specs.Prelude.{◌≡◌, ◌≢◌, ◌⊎◌, true, false, None, Some};
 ghost use Rattle.framehop.specs.Memory.{Memory};
-ghost use Rattle.framehop.specs.Outcome.{Outcome, refused};
+ghost use Rattle.framehop.specs.Outcome.{Outcome, refused, answer_of};
 ghost use Rattle.framehop.specs.CodeAddress.{FrameLocation, at_return_address, location_of};
 ghost use Rattle.framehop.specs.Iterator.{at_frame, next_of};
 ghost use Rattle.framehop.specs.Modules.{UnwinderView};
 ghost use Rattle.framehop.specs.Soundness.{AreApart};
 ghost use Rattle.framehop_lent.specs.Ahead.{zero_at};
-ghost use Rattle.framehop_lent.specs.Window.{told_in, AgreesWith};
+ghost use Rattle.framehop_lent.specs.Window.{told_in, unreadable_word, AgreesWith};
 ghost use Rattle.framehop_c.specs.Status.{ok, missing_word, out_of_memory, return_address_is_null, wrong_handle};
 ghost use Rattle.framehop_c.specs.Told.{location_at, is_null_return};
 ghost use Rattle.framehop_c.specs.Lookups.{lookup_hit, lookup_between};
-ghost use Rattle.framehop_c.specs.Ahead.{IsNoAhead, IsNoNext, IsNullNext, IsToldNext, IsAsked};
+ghost use Rattle.framehop_c.specs.Ahead.{IsNoAhead, IsNoNext, TellsNoWord, IsNullNext, IsToldNext, IsAsked, LeavesOutNone};
 
 use crate::calls::frame_at;
 use crate::lookups::{CountsLookups, FRAMEHOP_LOOKUP_HIT, FRAMEHOP_NO_LOOKUP, lookup_number};
@@ -45,7 +45,7 @@ pub struct FramehopNext {
 impl FramehopAhead {
     /// Returns that no word can be told.
     fn nothing(lookup: i32) -> FramehopAhead
-        ensures count { result.count ≡ 0 }
+        ensures words { TellsNoWord result }
         ensures lookup { result.lookup ≡ lookup }
     {
         FramehopAhead {
@@ -113,11 +113,18 @@ where
         let step : FrameLocation → U.UnwindRegs → Outcome U.UnwindRegs = λ location regs. U.step unwinder.now location regs memory in
         IsToldNext (next_of step (at_frame (location_at address is_return_address)) regs.old) result next.new regs.new }
     ensures asked { U.is_sound (U.unwinder_view unwinder.now) cache.old → result ≡ ok →
+        let between = U.cache_after unwinder.now cache.old (location_at address is_return_address) in
         let caller = at_return_address next.new.return_address in
-        (between : U.Cache) × U.is_sound (U.unwinder_view unwinder.now) between
-        × IsAsked (λ memory. U.step unwinder.now caller regs.new memory) next.new.ahead
-        × ((next.new.ahead.lookup ≡ lookup_between (U.Cache.counts between) (U.Cache.counts (U.cache_after unwinder.now between caller)))
-        ⊎ (next.new.ahead.lookup ≡ lookup_between (U.Cache.counts between) (U.Cache.counts (U.cache_after_lookup unwinder.now between caller)))) }
+        let asking : Memory → Outcome U.UnwindRegs = λ memory. U.step unwinder.now caller regs.new memory in
+        U.is_sound (U.unwinder_view unwinder.now) between
+        × IsAsked asking next.new.ahead
+        × (LeavesOutNone asking next.new.ahead
+        ⊎ (U.may_run_out unwinder.now between caller ⊎ U.may_run_out unwinder.now (U.cache_after unwinder.now between caller) caller)) }
+    ensures looked_up_ahead { result ≡ ok →
+        let between = U.cache_after unwinder.now cache.old (location_at address is_return_address) in
+        let caller = at_return_address next.new.return_address in
+        (next.new.ahead.lookup ≡ lookup_between (U.Cache.counts between) (U.Cache.counts (U.cache_after unwinder.now between caller)))
+        ⊎ (next.new.ahead.lookup ≡ lookup_between (U.Cache.counts between) (U.Cache.counts (U.cache_after_lookup unwinder.now between caller))) }
 {
     let Some(callee) = frame_at(address, is_return_address) else {
         *next = FramehopNext::nothing();
@@ -145,7 +152,8 @@ where
 }
 
 /// Returns the words that the step from a frame will ask for first: one that is asked for before any other, and where
-/// the frame's rule is in the cache also a second one.
+/// the frame's rule is in the cache also a second one. Where the rule is not there, none is told of a step that has
+/// asked for another word before the one for which it is refused; no clause knows which words a step asks for.
 fn words_ahead<U: Unwinder>(
     unwinder: &U,
     cache: &mut U::Cache,
@@ -156,6 +164,10 @@ where
     U::Cache: CountsLookups,
     ensures asked { U.is_sound (U.unwinder_view unwinder.now) cache.old
         → IsAsked (λ memory. U.step unwinder.now (location_of frame) regs.now memory) result }
+    ensures whole { U.is_sound (U.unwinder_view unwinder.now) cache.old
+        → LeavesOutNone (λ memory. U.step unwinder.now (location_of frame) regs.now memory) result
+        ⊎ (U.may_run_out unwinder.now cache.old (location_of frame)
+        ⊎ U.may_run_out unwinder.now (U.cache_after unwinder.now cache.old (location_of frame)) (location_of frame)) }
     ensures looked_up { (result.lookup ≡ lookup_between (U.Cache.counts cache.old) (U.Cache.counts (U.cache_after unwinder.now cache.old (location_of frame))))
         ⊎ (result.lookup ≡ lookup_between (U.Cache.counts cache.old) (U.Cache.counts (U.cache_after_lookup unwinder.now cache.old (location_of frame)))) }
     ensures stays_sound { (other : UnwinderView) → AreApart (U.unwinder_view unwinder.now) other
@@ -170,10 +182,13 @@ where
     if lookup == FRAMEHOP_LOOKUP_HIT {
         return words_by_rule(unwinder, cache, frame, regs, first);
     }
+    if !is_first {
+        return FramehopAhead::nothing(lookup);
+    }
     FramehopAhead {
         first,
         second: 0,
-        count: u32::from(is_first),
+        count: 1,
         lookup,
     }
 }
@@ -188,9 +203,13 @@ fn words_by_rule<U: Unwinder>(
 ) -> FramehopAhead
     ensures first { result.first ≡ first }
     ensures few { (result.count ≡ 1) ⊎ (result.count ≡ 2) }
+    ensures beyond { result.count ≡ 1 → result.second ≡ 0 }
     ensures lookup { result.lookup ≡ lookup_hit }
     ensures second { U.is_sound (U.unwinder_view unwinder.now) cache.old → result.count ≡ 2
         → U.step unwinder.now (location_of frame) regs.now (zero_at (Some first)) ≡ refused (Error.CouldNotReadStack result.second) }
+    ensures no_second { U.is_sound (U.unwinder_view unwinder.now) cache.old → result.count ≡ 1
+        → (unreadable_word (answer_of (U.step unwinder.now (location_of frame) regs.now (zero_at (Some first)))) ≡ None)
+        ⊎ U.may_run_out unwinder.now cache.old (location_of frame) }
     ensures stays_sound { (other : UnwinderView) → AreApart (U.unwinder_view unwinder.now) other
         → U.is_sound other cache.old → U.is_sound other cache.new }
 {

@@ -16,7 +16,7 @@ ghost use Rattle.framehop.specs.X86_64.{x86_64, IsSoundX86_64};
 ghost use Rattle.framehop_lent.specs.Window.{words_from, told_in, AgreesWith, IsReadAs};
 ghost use Rattle.framehop_lent.specs.Walk.{BeginsWalk};
 ghost use Rattle.framehop_c.specs.Status.{ok, missing_word, out_of_memory, wrong_handle, generations_exhausted, could_not_read_stack, return_address_is_null};
-ghost use Rattle.framehop_c.specs.Ahead.{IsNoAhead, IsNullNext, IsToldNext, IsAsked, IsNeeded};
+ghost use Rattle.framehop_c.specs.Ahead.{IsNoAhead, IsNullNext, IsToldNext, IsAsked, IsNeeded, IsEnough};
 ghost use Rattle.framehop_c.specs.Lookups.{lookup_between};
 ghost use Rattle.framehop_c.specs.Told.{IsToldWalk, IsToldPart, IsToldUpTo, IsToldStep, IsNullStep, IsNullWalk, location_at, is_null_return, module_of};
 ghost use Rattle.framehop_c.specs.Objects.{generations_in, ForGenerations, policy_for, IsDrawn, IsAddition, IsRemoval};
@@ -584,7 +584,10 @@ fn next_frame_by(
         (at_frame (location_at address is_return_address)) regs.old) result told.new regs.new) }
     ensures ahead { result ≡ ok → ForPair unwinder.now cache.old cache.new (λ policy unwinder old new. IsSoundX86_64 policy unwinder old →
         let asking : Memory → Outcome Registers = λ memory. step (x86_64 policy) unwinder.modules (at_return_address told.new.return_address) regs.new memory in
-        IsAsked asking told.new.ahead × IsNeeded asking told.new.ahead) }
+        IsAsked asking told.new.ahead × IsNeeded asking told.new.ahead × IsEnough asking told.new.ahead) }
+    ensures looked_up_ahead { result ≡ ok → ForPair unwinder.now cache.old cache.new (λ policy unwinder old new.
+        let between = cache_after (x86_64 policy) unwinder old (location_at address is_return_address) in
+        told.new.ahead.lookup ≡ lookup_between between.stats (cache_after (x86_64 policy) unwinder between (at_return_address told.new.return_address)).stats) }
 {
     match unwinder {
         Object::UnwinderX86_64(unwinder) => match cache {
@@ -649,7 +652,10 @@ pub extern "C" fn framehop_unwinder_x86_64_next_frame(
         (at_frame (location_at address is_return_address)) (registers_in registers.old)) result told.new (registers_in registers.new)) }
     ensures ahead { result ≡ ok → ForPair unwinder.old.object cache.old.object cache.new.object (λ policy unwinder old new. IsSoundX86_64 policy unwinder old →
         let asking : Memory → Outcome Registers = λ memory. step (x86_64 policy) unwinder.modules (at_return_address told.new.return_address) (registers_in registers.new) memory in
-        IsAsked asking told.new.ahead × IsNeeded asking told.new.ahead) }
+        IsAsked asking told.new.ahead × IsNeeded asking told.new.ahead × IsEnough asking told.new.ahead) }
+    ensures looked_up_ahead { result ≡ ok → ForPair unwinder.old.object cache.old.object cache.new.object (λ policy unwinder old new.
+        let between = cache_after (x86_64 policy) unwinder old (location_at address is_return_address) in
+        told.new.ahead.lookup ≡ lookup_between between.stats (cache_after (x86_64 policy) unwinder between (at_return_address told.new.return_address)).stats) }
 {
     let mut regs = registers.load();
     let status = next_frame_by(

@@ -1,5 +1,5 @@
 -- A callback that answers as one memory, whatever it notes.
-use Rattle.std.proofs.Common.{◌≡◌, ◌≢◌, ◌⊎◌, inl, inr, ℕ, Option, Some, None, IfSome, Result, Ok, Err, refl, sym, ap, ◌∙◌}
+use Rattle.std.proofs.Common.{◌≡◌, ◌≢◌, ◌⊎◌, inl, inr, ℕ, Option, None, IfSome, Result, Ok, Err, refl, sym, ap, ◌∙◌}
 use Rattle.std.specs.Fn.{Mut, Called}
 use Rattle.framehop.specs.Memory.{Memory, Answering, reply}
 use Rattle.framehop_core.specs.Outcome.{Outcome, answered, root, refused, answer_of}

@@ -1,5 +1,5 @@
 //! The words that a step asks for first, found before any of them is read.
-ghost use Rattle.std.specs.Prelude.{◌≡◌, None, IfSome, ◌⊎◌};
+ghost use Rattle.std.specs.Prelude.{◌≡◌, ◌≢◌, None, IfSome, ◌⊎◌};
 ghost use Rattle.framehop.specs.Memory.{reply};
 ghost use Rattle.framehop.specs.CodeAddress.{location_of};
 ghost use Rattle.framehop.specs.Outcome.{answer_of, refused};
@@ -39,6 +39,7 @@ pub fn wanted_word<U: Unwinder>(
     ensures none { U.is_sound (U.unwinder_view unwinder.now) cache.old → result.address ≡ None →
         (unreadable_word (answer_of (U.step unwinder.now (location_of callee) regs.now (zero_at known))) ≡ None)
         ⊎ U.may_run_out unwinder.now cache.old (location_of callee) }
+    ensures cached { result.address ≢ None → cache.new ≡ U.cache_after unwinder.now cache.old (location_of callee) }
     ensures looked_up { (cache.new ≡ U.cache_after unwinder.now cache.old (location_of callee))
         ⊎ (cache.new ≡ U.cache_after_lookup unwinder.now cache.old (location_of callee)) }
     ensures stays_sound { (other : UnwinderView) → AreApart (U.unwinder_view unwinder.now) other

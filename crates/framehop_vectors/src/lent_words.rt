@@ -3,8 +3,12 @@ use crate::unwinders::{Aarch64, STACK, X86_64, holds};
 use framehop::aarch64::{CacheAarch64, UnwindRegsAarch64, UnwinderAarch64};
 use framehop::session::WalkEnd;
 use framehop::x86_64::{CacheX86_64, UnwindRegsX86_64, UnwinderX86_64};
-use framehop::{Error, FrameAddress, MayAllocateDuringUnwind};
+use framehop::{
+    Error, ExplicitModuleSectionInfo, FrameAddress, Generations, MayAllocateDuringUnwind, Module,
+    Unwinder,
+};
 use framehop_lent::{WalkStop, Window, step_over, told, walk_into, walk_on, word_at};
+use framehop_walk::section_bytes;
 use std::alloc::Global;
 use std::test::Fail;
 
@@ -181,4 +185,137 @@ fn walks_on(alloc: Global) -> Result<bool, Fail> {
 #[test]
 fn walks_on_up_to_a_missing_word(rt: HostRuntime) -> Result<(), Fail> {
     holds(walks_on(rt.alloc())?)
+}
+
+/// The stack words of 24 frames that are left by the frame pointer, from 0x1000 on, four words a frame: the first two are the
+/// frame pointer of its caller and the return address.
+fn chain() -> [u64; 96] {
+    let mut words = [0; 96];
+    for frame in 0..24 {
+        words[4 * frame] = 0x1020 + 0x20 * frame as u64;
+        words[4 * frame + 1] = 0x100000 + frame as u64;
+    }
+    words
+}
+
+/// The first so many return addresses of the chain, and 0 for the others.
+fn callers(count: usize) -> [u64; 24] {
+    let mut frames = [0; 24];
+    for frame in 0..24 {
+        if frame < count {
+            frames[frame] = 0x100000 + frame as u64;
+        }
+    }
+    frames
+}
+
+/// A walk along the chain: the frames, how many they are and how it stops, and the registers after it.
+type ChainWalk = ([u64; 24], (usize, WalkStop), UnwindRegsX86_64);
+
+/// Walks on from the chain's first frame over the words of windows.
+fn walked_along(
+    unwinder: &UnwinderX86_64<Vec<u8>>,
+    cache: &mut CacheX86_64,
+    windows: &[Window<'_>],
+) -> ChainWalk {
+    let pc = FrameAddress::from_instruction_pointer(0x100400);
+    let mut regs = UnwindRegsX86_64::new(0x100400, 0xff0, 0x1000);
+    let mut frames = [0; 24];
+    let stopped = walk_on(unwinder, cache, pc, &mut regs, windows, &mut frames);
+    (frames, stopped, regs)
+}
+
+/// Whether a walk over the words of 20 frames writes 20 callers, and tells that the first word of the next frame is missing.
+fn writes_those_before(unwinder: &UnwinderX86_64<Vec<u8>>, cache: &mut CacheX86_64) -> bool {
+    let words = chain();
+    let window = Window {
+        base: 0x1000,
+        words: &words[..80],
+    };
+    walked_along(unwinder, cache, &[window])
+        == (
+            callers(20),
+            (20, WalkStop::Missing(0x1280)),
+            UnwindRegsX86_64::new(0x100013, 0x1270, 0x1280),
+        )
+}
+
+/// The same by a new unwinder and a new cache.
+fn walks_twenty(alloc: Global) -> Result<bool, Fail> {
+    let mut made = X86_64::<MayAllocateDuringUnwind>::new(alloc)?;
+    Ok(writes_those_before(&made.unwinder, &mut made.cache))
+}
+
+#[test]
+fn writes_the_frames_before_a_missing_word(rt: HostRuntime) -> Result<(), Fail> {
+    holds(walks_twenty(rt.alloc())?)
+}
+
+/// A CIE, and an FDE from 0x1000 to 0x1020 whose CFA is the expression of the entries of a procedure linkage table: rsp + 8,
+/// and 8 more where the last four bits of rip are at least 11.
+const LINKAGE_TABLE: &str = "1400000000000000017a5200017810011b0c070890010000\
+    1c0000001c000000e0efffff20000000000f0b770880003f1a3b2a332422000000000000";
+
+/// A module with that `.eh_frame`.
+fn linkage_table(alloc: Global) -> Result<Module<Vec<u8>>, Fail> {
+    let sections = ExplicitModuleSectionInfo {
+        eh_frame_svma: Some(0x2000..0x203c),
+        eh_frame: Some(section_bytes(alloc, LINKAGE_TABLE)?),
+        ..ExplicitModuleSectionInfo::default()
+    };
+    Ok(Module::new(alloc, String::new(alloc), 0x1000..0x3000, 0, sections)?)
+}
+
+/// Whether a walk whose 18th caller lacks its return address, so that the step from it goes on by the frame pointer, writes
+/// the callers of the first 16 steps and tells the missing word; and comes to the end where that word can't be read.
+fn writes_a_block(unwinder: &UnwinderX86_64<Vec<u8>>, cache: &mut CacheX86_64) -> bool {
+    let mut words = chain();
+    words[69] = 0x1010;
+    let windows = [
+        Window {
+            base: 0x1000,
+            words: &words[..70],
+        },
+        Window {
+            base: 0x1240,
+            words: &words[72..],
+        },
+        Window {
+            base: 0x1230,
+            words: &[],
+        },
+    ];
+    let mut whole = callers(24);
+    whole[17] = 0x1010;
+    walked_along(unwinder, cache, &windows[..2])
+        == (
+            callers(16),
+            (16, WalkStop::Missing(0x1230)),
+            UnwindRegsX86_64::new(0x10000f, 0x11f0, 0x1200),
+        )
+        && walked_along(unwinder, cache, &windows)
+            == (
+                whole,
+                (24, WalkStop::Ended(WalkEnd::Limit)),
+                UnwindRegsX86_64::new(0x100017, 0x12f0, 0x1300),
+            )
+}
+
+/// The same by a new unwinder with that module, and a new cache.
+fn walks_a_block(alloc: Global) -> Result<bool, Fail> {
+    let mut generations = Generations::new();
+    let mut cache = CacheX86_64::new(alloc)?;
+    let mut unwinder = UnwinderX86_64::new(alloc, &mut generations)?;
+    let module = linkage_table(alloc)?;
+    Ok(
+        unwinder.add_module(module, &mut generations).is_ok()
+            && writes_a_block(&unwinder, &mut cache),
+    )
+}
+
+#[test]
+fn writes_the_frames_of_the_blocks_before_a_step_without_a_word(
+    rt: HostRuntime,
+) -> Result<(), Fail> {
+    holds(walks_a_block(rt.alloc())?)
 }

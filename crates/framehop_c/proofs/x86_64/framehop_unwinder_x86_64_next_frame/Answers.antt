@@ -59,3 +59,10 @@ returns-else-status-clause-may_run_out c =
     let fits : SFits w32 found.result = search rules in
     let same : to_z w32 (of_z w32 found.result) ≡ found.result = to_z-of_z w32 found.result fits in
     rw (← c.object_mut.ensures.object, ← c.object_mut-2.ensures.object, same) found.ensures.may_run_out
+
+pub returns-then-status-eq-FRAMEHOP_OK-clause-looked_up_ahead : goal.returns-then-status-eq-FRAMEHOP_OK-clause-looked_up_ahead
+returns-then-status-eq-FRAMEHOP_OK-clause-looked_up_ahead c =
+    let found = c.next_frame_by-status in
+    let fits : SFits w32 found.result = search rules in
+    let same : to_z w32 (of_z w32 found.result) ≡ found.result = to_z-of_z w32 found.result fits in
+    λ is_ok. rw (← c.object_mut.ensures.object, ← c.object_mut-2.ensures.object) (found.ensures.looked_up_ahead (rw same at is_ok))
