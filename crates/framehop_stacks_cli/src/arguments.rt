@@ -186,12 +186,23 @@ fn with_folded<'a>(alloc: Global, command: Command<'a>) -> Result<Command<'a>> {
         "demangle",
         "Print the names of C++ and Rust as in the source, by c++filt; this is done by the script framehop-stacks, and needs c++filt [default: as the symbol tables have them]",
     );
+    let inlines = flag(
+        alloc,
+        "inlines",
+        "Print the functions that were inlined at frames, too, by llvm-symbolizer or addr2line; this is done by the script framehop-stacks [default: only functions that have code of their own]",
+    );
+    let lines = flag(
+        alloc,
+        "lines",
+        "Print the functions that were inlined, as by --inlines, and lines of the source [default: no lines]",
+    );
     let speedscope = flag(
         alloc,
         "speedscope",
         "Print the folded stacks of all recordings as JSON that speedscope reads, with a number of samples as the weight of each",
     );
-    let command = command.arg(diff)?.arg(demangle)?.arg(speedscope)?;
+    let command = command.arg(diff)?.arg(demangle)?;
+    let command = command.arg(inlines)?.arg(lines)?.arg(speedscope)?;
     with_picture(alloc, command)
 }
 
