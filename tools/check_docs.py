@@ -407,7 +407,7 @@ def printed(command, built):
     """What a command of a document prints, by the built programs."""
     command = command.removeprefix("FRAMEHOP_TRY=1 ")
     # what the script does before it starts the program
-    command = command.replace("./framehop-stacks --demangle", "tools/demangle.sh ./framehop-stacks")
+    command = command.replace("./framehop-stacks --demangle", "python3 tools/names.py ./framehop-stacks --demangle")
     command = re.sub(r"\./(framehop-\w+)", lambda name: shlex.quote(str(built[name[1]])), command)
     return subprocess.run(command, cwd=TOP, shell=True, capture_output=True, text=True, timeout=120).stdout
 

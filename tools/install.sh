@@ -42,20 +42,23 @@ put_manual() {
     put 644 "$work/$1.1.gz" "share/man/man1/$1.1.gz"
 }
 
-# framehop-stacks is a script that starts the program: with --demangle by way of c++filt, which the program can't start itself.
+# framehop-stacks is a script that starts the program: with --demangle, --inlines and --lines by way of other tools, which the program
+# can't start itself.
 put_stacks() {
     cat >"$work/framehop-stacks" <<'SCRIPT'
 #!/bin/sh
-# Starts framehop-stacks; with --demangle c++filt reads its stacks.
+# Starts framehop-stacks; with --demangle, --inlines and --lines other tools are asked for names and lines.
 folder=$(dirname -- "$(realpath -- "$0")")/../lib/framehop
 for argument; do
-    [ "$argument" != --demangle ] || exec "$folder/demangle.sh" "$folder/framehop-stacks" "$@"
+    case $argument in --demangle | --inlines | --lines) exec python3 "$folder/names.py" "$folder/framehop-stacks" "$@" ;; esac
 done
 exec "$folder/framehop-stacks" "$@"
 SCRIPT
     put 755 "$work/framehop-stacks" bin/framehop-stacks
     put 755 "$top/out/framehop-stacks" lib/framehop/framehop-stacks
-    put 755 "$top/tools/demangle.sh" lib/framehop/demangle.sh
+    put 755 "$top/tools/names.py" lib/framehop/names.py
+    put 644 "$top/tools/blocks.py" lib/framehop/blocks.py
+    put 644 "$top/tools/lines.py" lib/framehop/lines.py
 }
 
 # One archive of the library's and of the kit's shims of malloc, and a shared library of it. No file libframehop.so is installed: so

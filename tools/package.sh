@@ -16,7 +16,7 @@ Version: $version
 Architecture: $(dpkg --print-architecture)
 Maintainer: Sevoluman maintainers <maintainers@users.noreply.sevoluman.example>
 Depends: libc6
-Suggests: binutils, python3
+Suggests: python3, binutils, llvm
 Section: devel
 Priority: optional
 Description: A stack frame unwinder for profilers and crash readers

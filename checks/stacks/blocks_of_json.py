@@ -9,7 +9,7 @@ def line_of(frame):
     place, function = frame["module"], frame["function"]
     if place is None:
         where = "[unknown] ([unknown])"
-    elif function is None:
+    elif function is None or function["name"] is None:
         where = f"[unknown] ({place['file']}+{place['offset']})"
     else:
         where = f"{function['name']}+{function['offset']} ({place['file']})"

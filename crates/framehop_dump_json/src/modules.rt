@@ -29,14 +29,32 @@ fn module_value(
     let name = name_text(alloc, file.name.as_slice())?;
     let start = hexadecimal(alloc, mapping.start)?;
     let end = hexadecimal(alloc, mapping.end)?;
+    let build_id = build_id_value(alloc, file)?;
     json!(in alloc; {
         "file": name.as_str(),
+        "build_id": build_id,
         "start": start.as_str(),
         "end": end.as_str(),
         "file_read": file.object.is_some(),
         "unwind_data": has_unwind_data(file),
         "names": has_names(file)
     })
+}
+
+/// Returns the build id of a file that was read, in hexadecimal: null where it has none.
+fn build_id_value(alloc: Global, file: &NamedFile<'_>) -> Result<Value, AllocError> {
+    let build_id = match &file.object {
+        Some(object) => object.build_id(),
+        None => &[],
+    };
+    if build_id.is_empty() {
+        return Ok(Value::Null);
+    }
+    let mut text = String::new(alloc);
+    for byte in build_id {
+        write!(text, "{byte:02x}")?;
+    }
+    Ok(Value::String(text))
 }
 
 /// Returns whether a file was read and has unwind data.

@@ -140,16 +140,17 @@ fn module_value(
     json!(in alloc; {"file": name.as_str(), "offset": offset.as_str()})
 }
 
-/// Returns the function of a place and how far the place is from its start, or null where it has no name.
+/// Returns the function of a place, whose name is null where it has none, and how far the place is from its start; or null
+/// where no function is known.
 fn function_value(alloc: Global, place: Place<'_>) -> Result<Value, AllocError> {
-    match place {
-        Place::Function { name, offset, .. } => {
-            let name = name_text(alloc, name)?;
-            let offset = hexadecimal(alloc, offset)?;
-            json!(in alloc; {"name": name.as_str(), "offset": offset.as_str()})
-        }
-        _ => Ok(Value::Null),
-    }
+    let (name, offset) = match place {
+        Place::Function { name, offset, .. } => (Some(name), offset),
+        Place::Unnamed { start, address, .. } => (None, address.saturating_sub(start)),
+        _ => return Ok(Value::Null),
+    };
+    let name = name_value(alloc, name)?;
+    let offset = hexadecimal(alloc, offset)?;
+    json!(in alloc; {"name": name, "offset": offset.as_str()})
 }
 
 /// Returns how a frame was found, in the words of blocks: null of the first.

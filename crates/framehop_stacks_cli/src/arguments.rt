@@ -37,7 +37,7 @@ enum OptionValue {
 }
 
 /// The options, in the order of the help.
-const OPTIONS: [CommandOption; 25] = [
+const OPTIONS: [CommandOption; 27] = [
     CommandOption {
         name: "root",
         value: OptionValue::Many("DIR"),
@@ -157,6 +157,18 @@ const OPTIONS: [CommandOption; 25] = [
         value: OptionValue::None,
         with: None,
         help: "Print the names of C++ and Rust as in the source, by c++filt; this is done by the script framehop-stacks, and needs c++filt [default: as the symbol tables have them]",
+    },
+    CommandOption {
+        name: "inlines",
+        value: OptionValue::None,
+        with: None,
+        help: "Print the functions that were inlined at frames, too, by llvm-symbolizer or addr2line; this is done by the script framehop-stacks [default: only functions that have code of their own]",
+    },
+    CommandOption {
+        name: "lines",
+        value: OptionValue::None,
+        with: None,
+        help: "Print the functions that were inlined, as by --inlines, and lines of the source [default: no lines]",
     },
     CommandOption {
         name: "speedscope",

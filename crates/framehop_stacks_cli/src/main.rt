@@ -175,6 +175,8 @@ fn misuse_of_options(matches: &ArgMatches<'_>, options: Options<'_>) -> Option<&
         Some(
             "names are demangled by c++filt: framehop-stacks FILE.. | c++filt, and for a picture | framehop-stacks --svg -",
         )
+    } else if matches.get_flag("inlines") || matches.get_flag("lines") {
+        Some("inlined functions and lines are printed by the script framehop-stacks")
     } else if options.sure && options.frames {
         Some("only folded stacks are cut at frames that are not sure")
     } else if options.kernel.is_some() && options.explain {
