@@ -51,7 +51,9 @@ def build_original():
     """Builds the program over the original crate, and again with its index; returns both and the crate's version."""
     crate, given = TOP / "bench/original", os.environ.get("CARGO_ARGUMENTS", "").split()
     plain = OUT / "original"
-    run("cargo", "build", "--release", "--target-dir", plain, *given, cwd=crate)
+    # crates that are named by their paths would print their warnings
+    build = {"cwd": crate, "env": {**os.environ, "RUSTFLAGS": os.environ.get("RUSTFLAGS", "") + " --cap-lints=allow"}}
+    run("cargo", "build", "--release", "--target-dir", plain, *given, **build)
     described = run("cargo", "metadata", "--format-version", "1", *given, cwd=crate, capture_output=True).stdout
     package = next(it for it in json.loads(described)["packages"] if it["name"] == "framehop")
     opened = OUT / "original-with-index"
@@ -64,7 +66,7 @@ def build_original():
     library = opened / "crate/framehop/src/lib.rs"
     library.write_text(library.read_text().replace("\nmod dwarf;\n", "\npub mod dwarf;\n"))
     patch = f'patch.crates-io.framehop.path="{opened}/crate/framehop"'
-    run("cargo", "build", "--release", "--target-dir", opened, *given, "--config", patch, "--features", "index", cwd=crate)
+    run("cargo", "build", "--release", "--target-dir", opened, *given, "--config", patch, "--features", "index", **build)
     name = "release/framehop-original"
     return plain / name, opened / name, package["version"]
 

@@ -156,6 +156,10 @@ fi
 if command -v cargo > /dev/null; then
     export CARGO_TARGET_DIR="${CARGO_TARGET_DIR:-$work/target}"
     cd "$top/bindings/rust"
+    if cargo clippy --version > /dev/null 2>&1; then
+        cargo clippy --offline --quiet --all-targets -- -D warnings
+        echo "Rust: no warning"
+    fi
     cargo test --offline --quiet
     cargo build --offline --quiet --example cases
     python3 "$here/cases.py" rust window "$CARGO_TARGET_DIR/debug/examples/cases"

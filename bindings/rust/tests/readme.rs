@@ -67,7 +67,7 @@ fn walks_on_aarch64() {
 /// Sections that are lent, a clone that outlives its original, removal, and both policies.
 #[test]
 fn keeps_to_modules_on_x86_64() {
-    let bytes = vec![0u8; 4];
+    let bytes = [0u8; 4];
     let mut unwinder = UnwinderX86_64::<&[u8], MustNotAllocateDuringUnwind>::new();
     let info = ExplicitModuleSectionInfo {
         eh_frame_svma: Some(0x100..0x104),
