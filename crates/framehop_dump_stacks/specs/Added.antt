@@ -36,7 +36,7 @@ module _ (source : SourceView) where
   -- the same round after round, from files that were left out on
   pub data AreReadByRounds (wanted : List (List ℕ × List ℕ)) (left_out : Files) : Files → Type 0 where
     none : AreReadByRounds wanted left_out left_out
-    more : {all : Bool} {old new : Files} → AreReadByRounds wanted left_out old → AreReadSince all wanted old new
+    more : (all : Bool) (old : Files) {new : Files} → AreReadByRounds wanted left_out old → AreReadSince all wanted old new
         → AreReadByRounds wanted left_out new
 
   -- files are added by their names and the build ids that they are to have
