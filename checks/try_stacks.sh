@@ -292,6 +292,15 @@ for program in "$@"; do
     reported made-up.dmp
     reported small.dmp
     reported "$dumps/names.dmp"
+    # the build id that readelf -n has, and how far frames without names are from the starts of their FDEs
+    (cd "$data" && "$program" --root . --json crash.core 2>"$work/err") | python3 -c '
+import json, sys
+
+dump = json.load(sys.stdin)
+functions = [frame["function"] for frame in dump["threads"][0]["frames"]]
+found = [dump["modules"][0]["build_id"], *(function["offset"] for function in functions if function["name"] is None)]
+assert found == ["cb47e4cd805ea4a5d817ed2970d18a00481898ad", "0x4e", "0xa"], found' ||
+        { echo "$program: another build id or another start in the JSON of crash.core" >&2; failed=1; }
     try 2 "$work/nothing" "$(said "tiny.data: only core files and minidumps are printed as JSON")" --root . --json tiny.data
     try 2 "$work/nothing" "$(said "only folded stacks are drawn and compared, and no JSON")" --json --svg crash.core
     try 2 "$work/nothing" "$(said "JSON has all frames, and no notes")" --json --explain crash.core
