@@ -85,7 +85,7 @@ drawn() {
 demangled() {
     local status=$1 wanted=$2 ended
     shift 2
-    "$checks/../tools/demangle.sh" "$program" "$@" >"$work/out" 2>"$work/err"
+    python3 "$checks/../tools/names.py" "$program" "$@" >"$work/out" 2>"$work/err"
     ended=$?
     [ "$wanted" != "$work/demangled.svg" ] || "$program" --svg --flame --title "a b" "$work/demangled" >"$wanted"
     [ "$ended" = "$status" ] && cmp -s "$work/out" "$wanted" && return
@@ -164,7 +164,7 @@ printf 'a 1\nb x\nc\n' >"$work/bad_count"
 printf 'a 18446744073709551615\na 1\n' >"$work/large"
 printf 'app;main;_ZN3foo3barEi 3\napp;main;_RNvXCs1_7mycrateAhj4_NtB2_5Trait3foo 2\n' >"$work/mangled"
 # (how c++filt writes an array type differs by its version; but its semicolon would part a frame)
-printf 'app;main;%s 2\napp;main;foo::bar(int) 3\n' "$(c++filt _RNvXCs1_7mycrateAhj4_NtB2_5Trait3foo | tr ';' :)" >"$work/unsorted"
+printf 'app;main;%s 2\napp;main;foo::bar(int) 3\n' "$(c++filt -i _RNvXCs1_7mycrateAhj4_NtB2_5Trait3foo | tr ';' :)" >"$work/unsorted"
 LC_ALL=C sort "$work/unsorted" >"$work/demangled"
 
 # Two runs: `a` has three of five samples and then five of six, which is 0.28 of the larger part more; `b` is new.
@@ -298,6 +298,15 @@ for program in "$@"; do
     reported made-up.dmp
     reported small.dmp
     reported "$dumps/names.dmp"
+    # the build id that readelf -n has, and how far frames without names are from the starts of their FDEs
+    (cd "$data" && "$program" --root . --json crash.core 2>"$work/err") | python3 -c '
+import json, sys
+
+dump = json.load(sys.stdin)
+functions = [frame["function"] for frame in dump["threads"][0]["frames"]]
+found = [dump["modules"][0]["build_id"], *(function["offset"] for function in functions if function["name"] is None)]
+assert found == ["cb47e4cd805ea4a5d817ed2970d18a00481898ad", "0x4e", "0xa"], found' ||
+        { echo "$program: another build id or another start in the JSON of crash.core" >&2; failed=1; }
     try 2 "$work/nothing" "$(said "tiny.data: only core files and minidumps are printed as JSON")" --root . --json tiny.data
     try 2 "$work/nothing" "$(said "only folded stacks are drawn and compared, and no JSON")" --json --svg crash.core
     try 2 "$work/nothing" "$(said "JSON has all frames, and no notes")" --json --explain crash.core
@@ -341,6 +350,7 @@ for program in "$@"; do
     demangled 1 "$work/nothing" --demangle --svg "$work/no_count"
     demangled 0 "$work/twice" --demangle --diff "$work/mangled" "$work/mangled"
     try 2 "$work/nothing" any --demangle tiny.data
+    try 2 "$work/nothing" "$(said "inlined functions and lines are printed by the script framehop-stacks")" --lines tiny.data
     try 1 "$work/nothing" any srv/tiny
     try 1 "$work/nothing" "$(said "$work/short: line 1 is no folded stack: it has no blank before a count")" "$work/short"
     try 1 "$checks/stacks/tiny.limit" any --root . --limit 3 missing.data tiny.data

@@ -15,6 +15,7 @@ from pathlib import Path
 
 CHECKS = Path(__file__).resolve().parent
 DATA = CHECKS.parent / "crates/framehop_stacks_cli/data"
+NAMES = CHECKS.parent / "tools/names.py"
 CHECKED = CHECKS.parent / "crates/framehop_check_cli/data/five_functions.so"
 # ESC, BEL, CR, BS, DEL, a byte of C1 that is no UTF-8, the same as UTF-8, ESC
 HOSTILE = b"\x1b[31m\x07\r\x08\x7f\x9b2J\xc2\x9b31m\x1b]0;t\x07"
@@ -94,6 +95,10 @@ def try_stacks(stacks, work):
     for form in ([], ["--svg"], ["--speedscope"]):
         try_program(f"folded stacks {form}", [stacks, *form, path])
         try_program(f"folded stacks from standard input {form}", [stacks, *form, "-"], given=b"a;b 1\n" * 1000 + folded)
+    # a name of Rust that c++filt writes with a control character of C1
+    mangled = b"app;_RNvC1au2_1a 3\n"
+    for form in ([], ["--svg"], ["--speedscope"]):
+        try_program(f"a mangled name {form}", [sys.executable, NAMES, stacks, "--demangle", *form, "-"], given=mangled)
     named = work / "folder"
     named.mkdir()
     named.joinpath(HOSTILE_TEXT.replace("\0", "") + ".data").write_bytes(b"PERFILE2")

@@ -32,7 +32,13 @@ def notes(data):
 
 
 class ElfFile:
-    """An ELF file of 64 bits: its sections, and what they tell. Raises ValueError or struct.error of another file."""
+    """An ELF file of 64 bits, and what its sections tell. Raises an exception of `read_elf` of another file.
+
+    build_id        in hexadecimal: an empty text where it has none
+    has_lines       whether it has debug information
+    has_supplement  whether a part of that is in a file that several share, as dwz makes it
+    debug_link      the name of its debug file: an empty text where it has none
+    """
 
     def __init__(self, path):
         self.path = path
@@ -42,55 +48,44 @@ class ElfFile:
             raise ValueError("no ELF file of 64 bits")
         (start,) = struct.unpack_from("<Q", self.data, 0x28)
         size, count, names_at = struct.unpack_from("<HHH", self.data, 0x3A)
-        self.sections = [struct.unpack_from("<IIQQQQIIQQ", self.data, start + size * at) for at in range(count)]
-        self.numbers = {self._text(names_at, section[0]): at for at, section in reversed(list(enumerate(self.sections)))}
+        sections = [struct.unpack_from("<IIQQQQIIQQ", self.data, start + size * at) for at in range(count)]
+        self.sections = [(kind, offset, size, link) for _, kind, _, _, offset, size, link, *_ in sections]
+        texts = self.sections[names_at][1]
+        self.numbers = {self._text(texts + section[0]): at for at, section in enumerate(sections)}
+        self.build_id = next(self._build_ids(), "")
+        self.has_lines = any(self._size(name) for name in (b".debug_info", b".zdebug_info"))
+        self.has_supplement = self._size(b".gnu_debugaltlink") > 0
+        self.debug_link = self._bytes(b".gnu_debuglink").split(b"\0")[0].decode("utf-8", "surrogateescape")
 
-    def _text(self, section, offset):
-        """A text of a section of texts."""
-        start = self.sections[section][4] + offset
-        return self.data[start : self.data.find(b"\0", start)]
+    def _text(self, offset):
+        return self.data[offset : self.data.find(b"\0", offset)]
 
-    def section(self, name):
-        """The bytes of a section: none where it is not there."""
-        if name not in self.numbers:
-            return b""
-        kind, offset, size = (self.sections[self.numbers[name]][at] for at in (1, 4, 5))
-        return b"" if kind == SHT_NOBITS else self.data[offset : offset + size]
+    def _size(self, name):
+        """The size of a section: 0 where it is not there, or the file has no bytes of it."""
+        kind, _, size, _ = self.sections[self.numbers[name]] if name in self.numbers else (SHT_NOBITS, 0, 0, 0)
+        return 0 if kind == SHT_NOBITS else size
 
-    @property
-    def build_id(self):
-        """Its build id in hexadecimal: an empty text where it has none."""
-        for _, kind, _, _, offset, size, *_ in self.sections:
+    def _bytes(self, name):
+        size = self._size(name)
+        offset = self.sections[self.numbers[name]][1] if size else 0
+        return self.data[offset : offset + size]
+
+    def _build_ids(self):
+        for kind, offset, size, _ in self.sections:
             if kind == SHT_NOTE:
                 for owner, number, value in notes(self.data[offset : offset + size]):
                     if owner == b"GNU" and number == NT_GNU_BUILD_ID:
-                        return value.hex()
-        return ""
-
-    @property
-    def has_lines(self):
-        """Whether it has debug information."""
-        return bool(self.section(b".debug_info") or self.section(b".zdebug_info"))
-
-    @property
-    def has_supplement(self):
-        """Whether a part of its debug information is in a file that several share, as dwz makes it."""
-        return b".gnu_debugaltlink" in self.numbers
-
-    @property
-    def debug_link(self):
-        """The name of its debug file: an empty text where it has none."""
-        return self.section(b".gnu_debuglink").split(b"\0")[0].decode("utf-8", "surrogateescape")
+                        yield value.hex()
 
     def values(self, names):
         """The values of the symbols of these names: a set for each name that there is."""
         found = {}
         for table in (b".symtab", b".dynsym"):
-            texts = self.sections[self.sections[self.numbers[table]][6]] if self.section(table) else None
-            if texts is None:
-                continue
-            texts = self.data[texts[4] : texts[4] + texts[5]]
-            for name_at, _, _, section, value, _ in struct.iter_unpack("<IBBHQQ", self.section(table)):
+            symbols = self._bytes(table)
+            link = self.sections[self.numbers[table]][3] if symbols else len(self.sections)
+            _, start, size, _ = self.sections[link] if link < len(self.sections) else (0, 0, 0, 0)
+            texts = self.data[start : start + size]
+            for name_at, _, _, section, value, _ in struct.iter_unpack("<IBBHQQ", symbols[: len(symbols) // 24 * 24]):
                 name = texts[name_at : texts.find(b"\0", name_at)]
                 if section and name in names:
                     found.setdefault(name, set()).add(value)
@@ -101,7 +96,7 @@ def read_elf(path):
     """An ELF file, or None where there is none that can be read."""
     try:
         return ElfFile(path) if os.path.isfile(path) else None
-    except (OSError, ValueError, IndexError, struct.error):
+    except (OSError, ValueError, IndexError, OverflowError, struct.error):
         return None
 
 
@@ -175,8 +170,8 @@ def recorded_build_ids(path):
             file.seek(data_start + data_size + 16 * (features >> 1 & 1))
             start, size = struct.unpack("<QQ", file.read(16))
             file.seek(start)
-            table = file.read(size)
-    except (OSError, ValueError, struct.error):
+            table = file.read(min(size, os.path.getsize(path)))
+    except (OSError, ValueError, OverflowError, struct.error):
         return ids
     at = 0
     while at + 36 <= len(table):

@@ -12,6 +12,7 @@ import itertools
 import json
 import os
 import shutil
+import stat
 import subprocess
 import sys
 import tempfile
@@ -53,6 +54,7 @@ class Command:
             else:
                 self.known = self.known and word.startswith("--") and name in (VALUED if has_value else FLAGS | OURS)
                 self.options.append((name, value, [word]))
+        self.known = self.known and bool(self.files)
 
     def has(self, *names):
         return any(name in names for name, _, _ in self.options)
@@ -83,11 +85,10 @@ class Stacks:
         self.disk = Disk(roots, debug_dirs, copies, main_program)
         self.lines = Lines(self.disk)
         self.folded = Counter()
-        self.stdin = None
-        if "-" in command.files:
-            self.stdin = tempfile.TemporaryFile()
-            shutil.copyfileobj(sys.stdin.buffer, self.stdin)
-            self.stdin.flush()
+        self.stdin = copied(sys.stdin.buffer) if "-" in command.files else None
+        self.pipes = [copied(open(path, "rb")) for path in command.files if is_pipe(path)]
+        copies = (pipe.name for pipe in self.pipes)
+        command.files = [next(copies) if is_pipe(path) else path for path in command.files]
 
     # ---- runs
 
@@ -95,7 +96,6 @@ class Stacks:
         """Runs the program, and notes its status, if it is greater than those so far."""
         given = given or (self.stdin if "-" in words else None)
         if given:
-            given.flush()
             # (a seek of Python's own may leave the file where it is)
             os.lseek(given.fileno(), 0, os.SEEK_SET)
         sys.stdout.flush()
@@ -122,11 +122,8 @@ class Stacks:
         if os.path.isdir(path):
             return "recording"
         try:
-            if path == "-":
-                first = os.pread(self.stdin.fileno(), 8, 0)
-            else:
-                with open(path, "rb") as file:
-                    first = file.read(8)
+            with open(self.stdin.name if path == "-" else path, "rb") as file:
+                first = file.read(8)
         except OSError:
             return "other"
         if first == b"PERFILE2":
@@ -347,7 +344,7 @@ class Stacks:
         frames = [frame for frame in blocks.frames.values() if frame.file and not frame.is_kernel]
         if not self.with_inlines:
             return []
-        ids = build_ids(path)
+        ids = build_ids(self.stdin.name if path == "-" else path)
         names = {}
         for frame in frames:
             frame.build_id = ids.get(frame.file, "")
@@ -397,6 +394,22 @@ class Starts:
         return f"{file}+{starts[at - 1] if at else frame.svma:#x}"
 
 
+def copied(stream):
+    """A file with what a stream has, which can be read more than once."""
+    file = tempfile.NamedTemporaryFile()
+    shutil.copyfileobj(stream, file)
+    file.flush()
+    return file
+
+
+def is_pipe(path):
+    """Whether a path is that of a pipe, as `<(COMMAND)` of a shell."""
+    try:
+        return stat.S_ISFIFO(os.stat(path).st_mode)
+    except OSError:
+        return False
+
+
 def at(place):
     """Where in the source a line of a block is."""
     return f" at {place[0]}:{place[1]}" if place else ""
@@ -436,7 +449,7 @@ def missing_tool(command):
 
 
 def main():
-    program, *arguments = sys.argv[1:]
+    program, *arguments = os.path.abspath(sys.argv[1]), *sys.argv[2:]
     command = Command(arguments)
     if not command.known:
         return subprocess.run([program, *(word for word in arguments if word[2:] not in OURS)]).returncode
@@ -452,6 +465,10 @@ if __name__ == "__main__":
     if len(sys.argv) < 2:
         sys.exit(f"usage: {sys.argv[0]} PROGRAM ARGUMENT..")
     try:
-        sys.exit(main())
+        status = main()
+        sys.stdout.flush()
     except BrokenPipeError:
-        sys.exit(1)
+        # what is left is written nowhere
+        os.dup2(os.open(os.devnull, os.O_WRONLY), sys.stdout.fileno())
+        status = 1
+    sys.exit(status)

@@ -14,7 +14,7 @@ TOP = Path(__file__).resolve().parent.parent
 PAGE = TOP / "docs/TESTED.md"
 HEADING = "## The tests\n"
 # the scripts that compare or try something
-SCRIPTS = ["checks/*.sh", "checks/*.py", "checks/code/*.py", "checks/stacks/judge_dumps.py", "checks/stacks/step_vdso.py", "bindings/test/*.sh", "bindings/test/*.py"]
+SCRIPTS = ["checks/*.sh", "checks/*.py", "checks/code/*.py", "checks/stacks/judge_dumps.py", "checks/stacks/judge_lines.py", "checks/stacks/step_vdso.py", "bindings/test/*.sh", "bindings/test/*.py"]
 # those of them that only make data, or that another one calls
 LEFT_OUT = {"make_prologs.py", "make_stack.py", "walk.py", "walk_core.py"}
 # so many words of a head are shown, where a comma allows it

@@ -33,7 +33,8 @@ if [ -x "$prefix/bin/framehop-stacks" ]; then
     ln -s "$prefix/bin/framehop-stacks" "$work/link"
     printf 'main;_ZN4Tree4growEi 2\nmain;_ZN4Tree4growEv 1\n' >"$work/folded"
     mkdir "$work/path"
-    for tool in bash dirname realpath; do ln -s "$(command -v $tool)" "$work/path/$tool"; done
+    for tool in dirname realpath; do ln -s "$(command -v $tool)" "$work/path/$tool"; done
+    ln -s "$(python3 -c 'import sys; print(sys.executable)')" "$work/path/python3"
     status=0
     PATH=$work/path "$work/link" --demangle "$work/folded" 2>"$work/errors" || status=$?
     [ $status = 2 ] && grep -q 'needs c++filt' "$work/errors"
