@@ -1,3 +1,4 @@
+mod AskedLemmas
 mod DumpLemmas
 mod EachLemmas
 mod MinidumpLemmas
