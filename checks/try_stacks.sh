@@ -274,7 +274,7 @@ for program in "$@"; do
     heads timer.core "crash 32706/32706 crashed by signal 34 (SI_TIMER):" "crash 32706/32707:"
     heads unknown.core "crash 32706/32706 crashed by SIGSEGV (code 77 at 0x1234):" "crash 32706/32707:"
     heads abort.dmp "crash 31455/31455 crashed by SIGABRT (SI_TKILL from process 31455):" "crash 31455/31458:"
-    heads stopped.dmp "crash 31455/31455:" "crash 31455/31458:"
+    heads stopped.dmp "crash 31455/31458:" "crash 31455/31455:"
     heads fault.dmp "crash 31455/31455 crashed by SIGSEGV (SEGV_MAPERR at 0x10):" "crash 31455/31458:"
     heads names.dmp 'small.exe 32/284 "writer" crashed by EXCEPTION_ACCESS_VIOLATION (write of 0x0):' 'small.exe 32/244 "UI thread":' 'small.exe 32/248 "größe\x1b[31m":' "small.exe 32/252:"
     heads read.dmp "small.exe 32/244 crashed by EXCEPTION_IN_PAGE_ERROR (execution of 0xdead0000):" "small.exe 32/248:" "small.exe 32/252:" "small.exe 32/284:"
