@@ -225,32 +225,6 @@ fn walked_along(
     (frames, stopped, regs)
 }
 
-/// Whether a walk over the words of 20 frames writes 20 callers, and tells that the first word of the next frame is missing.
-fn writes_those_before(unwinder: &UnwinderX86_64<Vec<u8>>, cache: &mut CacheX86_64) -> bool {
-    let words = chain();
-    let window = Window {
-        base: 0x1000,
-        words: &words[..80],
-    };
-    walked_along(unwinder, cache, &[window])
-        == (
-            callers(20),
-            (20, WalkStop::Missing(0x1280)),
-            UnwindRegsX86_64::new(0x100013, 0x1270, 0x1280),
-        )
-}
-
-/// The same by a new unwinder and a new cache.
-fn walks_twenty(alloc: Global) -> Result<bool, Fail> {
-    let mut made = X86_64::<MayAllocateDuringUnwind>::new(alloc)?;
-    Ok(writes_those_before(&made.unwinder, &mut made.cache))
-}
-
-#[test]
-fn writes_the_frames_before_a_missing_word(rt: HostRuntime) -> Result<(), Fail> {
-    holds(walks_twenty(rt.alloc())?)
-}
-
 /// A CIE, and an FDE from 0x1000 to 0x1020 whose CFA is the expression of the entries of a procedure linkage table: rsp + 8,
 /// and 8 more where the last four bits of rip are at least 11.
 const LINKAGE_TABLE: &str = "1400000000000000017a5200017810011b0c070890010000\
