@@ -4,18 +4,12 @@ ghost use Rattle.framehop_coredump.specs.Refusal.{IsErrorOf};
 ghost use Rattle.framehop_coredump.specs.CoreFile.{machine_of, core_file_of};
 
 use crate::error::CoreFileError;
-use framehop_elf::header::{FileHeader, read_file_header};
+use framehop_elf::header::{EM_AARCH64, EM_X86_64, FileHeader, read_file_header};
 use framehop_elf::program_header::{ProgramHeader, read_program_headers};
 use std::alloc::Global;
 
 /// `ET_CORE`.
 const ET_CORE: u16 = 4;
-
-/// `EM_X86_64`.
-const EM_X86_64: u16 = 62;
-
-/// `EM_AARCH64`.
-const EM_AARCH64: u16 = 183;
 
 /// The machine of a core file.
 #[derive(Clone, Copy, Debug, PartialEq, Eq)]

@@ -9,12 +9,9 @@ use crate::error::CoreFileError;
 use framehop_bytes::bytes::back;
 use framehop_bytes::gathered::pushed;
 use framehop_elf::note::{ElfNote, read_note};
-use framehop_elf::program_header::ProgramHeader;
+use framehop_elf::program_header::{PT_NOTE, ProgramHeader};
 use framehop_elf::segment::read_segment;
 use std::alloc::Global;
-
-/// `PT_NOTE`.
-const PT_NOTE: u32 = 4;
 
 /// A note of a core file, and where it is.
 #[derive(Clone, Copy, Drop)]

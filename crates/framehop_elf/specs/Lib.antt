@@ -12,4 +12,6 @@ pub mod Note
 pub mod BuildId
 pub mod Symbol
 pub mod FileSection
+pub mod Decompressed
+pub mod ErrorText
 pub mod UnwindSections

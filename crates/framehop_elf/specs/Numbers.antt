@@ -35,6 +35,13 @@ SHT_NOBITS = 8
 abbrev pub SHF_COMPRESSED : ℕ
 SHF_COMPRESSED = 0x800
 
+-- ch_type of a compressed section
+abbrev pub ELFCOMPRESS_ZLIB : ℕ
+ELFCOMPRESS_ZLIB = 1
+
+abbrev pub ELFCOMPRESS_ZSTD : ℕ
+ELFCOMPRESS_ZSTD = 2
+
 -- the types of symbols: the lower four bits of st_info
 abbrev pub STT_FUNC : ℕ
 STT_FUNC = 2

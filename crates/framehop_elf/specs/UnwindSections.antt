@@ -1,12 +1,15 @@
 -- The sections of a file that an unwinder needs, by their names.
 -- (gABI, chapter 4, "Special Sections"; LSB Core, "Exception Frames".)
-use Rattle.std.specs.Prelude.{ℕ, ◌+◌, ◌-◌, ◌^◌, ◌==◌, if◌then◌else◌, List, codes, Option, Some, None, option_map, option_and_then, min, Vec}
-use Rattle.std.specs.Result.{result_ok}
+use Rattle.std.specs.Prelude.{ℕ, ◌+◌, ◌-◌, ◌^◌, ◌==◌, if◌then◌else◌, Bool, List, codes, Option, Some, None, is_some, option_map, option_and_then, Result, Ok, Err, min, Vec}
+use Rattle.std.specs.Result.{result_ok, result_map_both}
 use Rattle.std.specs.declared.alloc.Global.{Global}
 use Rattle.std.specs.declared.ops.Range.{Range}
 use Rattle.framehop_bytes.specs.declared.section.ExplicitModuleSectionInfo.{ExplicitModuleSectionInfo}
+use Rattle.framehop_elf.specs.Decompressed.{decompressed_of}
 use Rattle.framehop_elf.specs.Numbers.{SHT_NOBITS}
 use Rattle.framehop_elf.specs.Section.{contents_of, section_called}
+use Rattle.framehop_elf.specs.declared.decompressed.ContentsError.{ContentsError}
+use Rattle.framehop_elf.specs.declared.decompressed.ContentsError.TheVariants.{OlderForm}
 use Rattle.framehop_elf.specs.declared.section_header.SectionHeader.{SectionHeader}
 
 -- where a section is; one that ends above the last address ends at it
@@ -34,13 +37,33 @@ range_of stored = option_map (λ s. range_in s.0) stored
 abbrev pub data_of : Option Stored → Option (List ℕ)
 data_of stored = option_map (λ s. s.1) stored
 
+-- what a section holds, if the file has bytes of it: it is decompressed, where it is compressed
+abbrev pub held_in : List ℕ → SectionHeader → Result (Option (List ℕ)) ContentsError
+held_in file section =
+    if section.sh_type == SHT_NOBITS then Ok None else result_map_both (λ bytes. Some bytes) (λ error. error) (decompressed_of file section)
+
+-- that of `.debug_frame`, if there is one; GNU's older form of compression, in which it is called `.zdebug_frame`, is not
+-- read
+abbrev pub debug_frame_by : List ℕ → Option SectionHeader → Option SectionHeader → Result (Option (List ℕ)) ContentsError
+debug_frame_by file (Some section) older = held_in file section
+debug_frame_by file None (Some older) = Err OlderForm
+debug_frame_by file None None = Ok None
+
+abbrev pub debug_frame_of : List ℕ → List SectionHeader → List ℕ → Result (Option (List ℕ)) ContentsError
+debug_frame_of file sections names =
+    debug_frame_by file (section_called sections names (codes ".debug_frame")) (section_called sections names (codes ".zdebug_frame"))
+
+-- the bytes, none where they can't be had
+abbrev pub bytes_or_none : Result (Option (List ℕ)) ContentsError → Option (List ℕ)
+bytes_or_none (Ok bytes) = bytes
+bytes_or_none (Err error) = None
+
 -- What an unwinder is to know of a file: where its code and its global offset table are, and the call frame sections that
--- the file holds. One that is refused counts as absent.
-abbrev pub unwind_sections_of : List ℕ → List SectionHeader → List ℕ → ExplicitModuleSectionInfo (List ℕ)
-unwind_sections_of file sections names =
+-- the file holds, with these bytes of `.debug_frame`. One that is refused counts as absent.
+abbrev pub unwind_sections_of : List ℕ → List SectionHeader → List ℕ → Option (List ℕ) → ExplicitModuleSectionInfo (List ℕ)
+unwind_sections_of file sections names debug_frame =
     let eh_frame = stored_called file sections names (codes ".eh_frame") in
     let eh_frame_hdr = stored_called file sections names (codes ".eh_frame_hdr") in
-    let debug_frame = stored_called file sections names (codes ".debug_frame") in
     record {
       base_svma = 0;
       text_svma = option_map range_in (section_called sections names (codes ".text"));
@@ -53,18 +76,18 @@ unwind_sections_of file sections names =
       eh_frame = data_of eh_frame;
       eh_frame_hdr_svma = range_of eh_frame_hdr;
       eh_frame_hdr = data_of eh_frame_hdr;
-      debug_frame = data_of debug_frame;
+      debug_frame = debug_frame;
       text_segment_svma = None;
       text_segment = None;
     }
 
--- what it is to know of the `.debug_frame` of a file that holds `.eh_frame`, too
-abbrev pub debug_frame_beside : Option Stored → List ℕ → List SectionHeader → List ℕ → Option (List ℕ)
-debug_frame_beside (Some eh_frame) file sections names = data_of (stored_called file sections names (codes ".debug_frame"))
-debug_frame_beside None file sections names = None
+-- the file holds `.eh_frame`
+abbrev pub has_eh_frame : List ℕ → List SectionHeader → List ℕ → Bool
+has_eh_frame file sections names = is_some (stored_called file sections names (codes ".eh_frame"))
 
-abbrev pub debug_frame_of : List ℕ → List SectionHeader → List ℕ → ExplicitModuleSectionInfo (List ℕ)
-debug_frame_of file sections names = record {
+-- what it is to know of these bytes of `.debug_frame` only
+abbrev pub debug_frame_sections_of : List SectionHeader → List ℕ → Option (List ℕ) → ExplicitModuleSectionInfo (List ℕ)
+debug_frame_sections_of sections names debug_frame = record {
   base_svma = 0;
   text_svma = option_map range_in (section_called sections names (codes ".text"));
   text = None;
@@ -76,7 +99,7 @@ debug_frame_of file sections names = record {
   eh_frame = None;
   eh_frame_hdr_svma = None;
   eh_frame_hdr = None;
-  debug_frame = debug_frame_beside (stored_called file sections names (codes ".eh_frame")) file sections names;
+  debug_frame = debug_frame;
   text_segment_svma = None;
   text_segment = None;
 }

@@ -3,13 +3,10 @@ ghost use Rattle.std.specs.Prelude.{◌≡◌, length, option_map};
 ghost use Rattle.framehop_elf.specs.BuildId.{notes_of_segment, notes_of_section, build_id_within, first_in, build_id_of_file};
 
 use crate::note::build_id_in;
-use crate::program_header::ProgramHeader;
+use crate::program_header::{PT_NOTE, ProgramHeader};
 use crate::section::read_contents;
 use crate::section_header::SectionHeader;
 use crate::segment::read_segment;
-
-/// `PT_NOTE`.
-const PT_NOTE: u32 = 4;
 
 /// `SHT_NOTE`.
 const SHT_NOTE: u32 = 7;

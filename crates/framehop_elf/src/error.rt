@@ -1,43 +1,67 @@
 //! Why an ELF file can't be read.
-ghost use Rattle.std.specs.Prelude.{◌≡◌};
+ghost use Rattle.std.specs.Prelude.{◌≡◌, Some};
+ghost use Rattle.framehop_elf.specs.ErrorText.{elf_error_text};
 
 use std::alloc::{AllocError, AllocFailed};
-use thiserror::Error;
+use std::{error, fmt};
 
 /// Why an ELF file, or a table of it, can't be read. Each offset is in bytes from the start of the
 /// file.
-#[derive(Clone, Copy, Debug, PartialEq, Eq, Error)]
+#[derive(Clone, Copy, Debug, PartialEq, Eq)]
 pub enum ElfError {
     /// The file ends before what is to be read from the offset on.
-    #[error("the file ends before what is to be read at offset {offset}")]
     Eof { offset: u64 },
     /// The file does not begin with the magic number.
-    #[error("not an ELF file: offset {offset}")]
     NotElf { offset: u64 },
     /// The file's class is not ELFCLASS64.
-    #[error("not a 64-bit ELF file: offset {offset}")]
     NotClass64 { offset: u64 },
     /// The file's encoding is not ELFDATA2LSB.
-    #[error("not a little-endian ELF file: offset {offset}")]
     NotLittleEndian { offset: u64 },
     /// The file's version is not EV_CURRENT.
-    #[error("an unknown version of ELF: offset {offset}")]
     UnknownVersion { offset: u64 },
     /// The entries of a table have another size than the format's. The offset is that of the field of
     /// the ELF header, or of the symbol table.
-    #[error("entries of an unknown size: offset {offset}")]
     BadEntrySize { offset: u64 },
     /// The field of the ELF header at the offset, or the symbol table at the offset, asks for a section
     /// that is not there.
-    #[error("no such section: offset {offset}")]
     NoSuchSection { offset: u64 },
     /// The section whose contents begin at the offset is compressed.
-    #[error("a compressed section at offset {offset}")]
     Compressed { offset: u64 },
     /// An allocation failed.
-    #[error("out of memory")]
     OutOfMemory,
 }
+
+impl fmt::Display for ElfError {
+    ghost output = { λ e. Some (elf_error_text e) };
+
+    #[tactic(auto, unfolding(crate::specs::ErrorText::elf_error_text))]
+    fn fmt<W: fmt::Write>(&self, f: &mut fmt::Formatter<W>) -> fmt::Result {
+        match self {
+            ElfError::Eof { offset } => write!(
+                f,
+                "the file ends before what is to be read at offset {offset}"
+            ),
+            ElfError::NotElf { offset } => write!(f, "not an ELF file: offset {offset}"),
+            ElfError::NotClass64 { offset } => write!(f, "not a 64-bit ELF file: offset {offset}"),
+            ElfError::NotLittleEndian { offset } => {
+                write!(f, "not a little-endian ELF file: offset {offset}")
+            }
+            ElfError::UnknownVersion { offset } => {
+                write!(f, "an unknown version of ELF: offset {offset}")
+            }
+            ElfError::BadEntrySize { offset } => {
+                write!(f, "entries of an unknown size: offset {offset}")
+            }
+            ElfError::NoSuchSection { offset } => write!(f, "no such section: offset {offset}"),
+            ElfError::Compressed { offset } => {
+                write!(f, "a compressed section at offset {offset}")
+            }
+            ElfError::OutOfMemory => write!(f, "out of memory"),
+        }
+    }
+}
+
+impl error::Error for ElfError {}
 
 impl From<AllocError> for ElfError {
     ghost use Rattle.framehop_elf.specs.declared.error.ElfError.{ElfError};

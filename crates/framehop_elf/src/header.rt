@@ -6,6 +6,12 @@ use crate::block::read_block;
 use crate::error::ElfError;
 use framehop_bytes::bytes::{u16_at, u32_at, u64_at};
 
+/// `EM_X86_64`: the value of `e_machine` of x86_64.
+pub const EM_X86_64: u16 = 62;
+
+/// `EM_AARCH64`: the value of `e_machine` of aarch64.
+pub const EM_AARCH64: u16 = 183;
+
 /// `ELFMAG0` to `ELFMAG3` as a little-endian number.
 const MAGIC: u32 = 0x464c457f;
 

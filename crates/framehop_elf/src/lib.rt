@@ -10,12 +10,13 @@
 //!   the file, and only code is unwound.
 //! - Notes for a build id are read as long as they have no more bytes than the file together; what
 //!   does not fit is passed over, as a build id only finds other files.
-//! - A compressed section is refused, since what it has in the file is not what it holds; for an
-//!   unwinder it counts as absent, as one without bytes does.
+//! - `.debug_frame` is decompressed, as linkers compress it: by zlib, and to 64 MiB. Another section
+//!   that is compressed is refused, since what it has in the file is not what it holds.
 #![tactic(auto)]
 
 mod block;
 pub mod build_id;
+pub mod decompressed;
 pub mod error;
 pub mod file_section;
 pub mod header;

@@ -10,6 +10,9 @@ use crate::section_header::read_first_section;
 use framehop_bytes::bytes::{u32_at, u64_at};
 use std::alloc::{AllocError, Global};
 
+/// `PT_NOTE`: a segment of notes.
+pub const PT_NOTE: u32 = 4;
+
 /// The value of `e_phnum` of a file that has as many segments or more.
 const PN_XNUM: u16 = 0xffff;
 

@@ -11,10 +11,10 @@ use crate::section_header::{SectionHeader, read_first_section};
 use framehop_bytes::bytes::back;
 
 /// `SHT_NOBITS`: a section that takes no space in the file.
-const SHT_NOBITS: u32 = 8;
+pub const SHT_NOBITS: u32 = 8;
 
 /// `SHF_COMPRESSED`.
-const SHF_COMPRESSED: u64 = 0x800;
+pub(crate) const SHF_COMPRESSED: u64 = 0x800;
 
 /// `SHN_UNDEF`.
 const SHN_UNDEF: u32 = 0;
@@ -79,7 +79,7 @@ fn names_index(file: &[u8], header: FileHeader) -> Result<u32, ElfError>
 ///
 /// # Errors
 ///
-/// `Compressed` where it has `SHF_COMPRESSED`, and `Eof` where the file ends before it does.
+/// `Compressed` where it has `SHF_COMPRESSED`, which `read_decompressed` reads, and `Eof` where the file ends before it does.
 ///
 /// Source: System V gABI, chapter 4, "Sections".
 #[tactic(auto, unfolding(crate::specs::Section::contents_of))]

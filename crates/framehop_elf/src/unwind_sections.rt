@@ -1,17 +1,15 @@
 //! The sections of a file that an unwinder needs.
-ghost use Rattle.std.specs.Prelude.{◌≡◌, IfOk, IfErr, option_map};
+ghost use Rattle.std.specs.Prelude.{◌≡◌, ◌≢◌, Ok, Err, MatchResult, IfOk, IfErr, option_map};
 ghost use Rattle.framehop_elf.specs.Section.{section_called};
-ghost use Rattle.framehop_elf.specs.UnwindSections.{range_in, stored_in, stored_called, range_of, data_of, unwind_sections_of, debug_frame_of, bytes_in, sections_view};
+ghost use Rattle.framehop_elf.specs.UnwindSections.{range_in, stored_in, stored_called, range_of, data_of, held_in, debug_frame_of, bytes_or_none, unwind_sections_of, has_eh_frame, debug_frame_sections_of, bytes_in, sections_view};
 
+use crate::decompressed::{ContentsError, read_decompressed};
 use crate::error::ElfError;
-use crate::section::{read_contents, section_by_name};
+use crate::section::{SHT_NOBITS, read_contents, section_by_name};
 use crate::section_header::SectionHeader;
 use framehop_bytes::section::ExplicitModuleSectionInfo;
 use std::alloc::Global;
 use std::ops::Range;
-
-/// `SHT_NOBITS`: a section that takes no space in the file.
-const SHT_NOBITS: u32 = 8;
 
 /// A section, and what it holds.
 #[derive(Clone, Copy, Drop)]
@@ -21,8 +19,9 @@ struct Stored<'a> {
 }
 
 /// Returns what an unwinder needs of a file, to make a module of it: where `.text` and `.got` are,
-/// and copies of `.eh_frame`, `.eh_frame_hdr` and `.debug_frame`. Of these a section that the file does not
-/// hold, or whose contents are refused, counts as absent. The base SVMA of an ELF file is 0.
+/// and copies of `.eh_frame`, `.eh_frame_hdr` and `.debug_frame`, which is decompressed where it is compressed. Of these
+/// a section that the file does not hold, or whose contents are refused, counts as absent. The base SVMA of an ELF file
+/// is 0.
 ///
 /// # Errors
 ///
@@ -35,57 +34,112 @@ pub fn read_unwind_sections(
     sections: &[SectionHeader],
     names: &[u8],
 ) -> Result<ExplicitModuleSectionInfo<Vec<u8>>, ElfError>
-    ensures exact { IfOk result (λ info. sections_view info ≡ unwind_sections_of file.now sections.now names.now) }
+    ensures exact { IfOk result (λ info. sections_view info ≡ unwind_sections_of file.now sections.now names.now
+        (bytes_or_none (debug_frame_of file.now sections.now names.now))) }
     ensures refused { IfErr result (λ error. error ≡ ElfError.OutOfMemory) }
 {
-    let eh_frame = stored_called(file, sections, names, b".eh_frame");
-    let eh_frame_hdr = stored_called(file, sections, names, b".eh_frame_hdr");
-    let debug_frame = stored_called(file, sections, names, b".debug_frame");
-    Ok(ExplicitModuleSectionInfo {
-        base_svma: 0,
-        text_svma: range_called(sections, names, b".text"),
-        text: None,
-        stubs_svma: None,
-        stub_helper_svma: None,
-        got_svma: range_called(sections, names, b".got"),
-        unwind_info: None,
-        eh_frame_svma: range_of(eh_frame),
-        eh_frame: data_of(alloc, eh_frame)?,
-        eh_frame_hdr_svma: range_of(eh_frame_hdr),
-        eh_frame_hdr: data_of(alloc, eh_frame_hdr)?,
-        debug_frame: data_of(alloc, debug_frame)?,
-        text_segment_svma: None,
-        text_segment: None,
-    })
+    let debug_frame = match read_debug_frame(alloc, file, sections, names) {
+        Ok(debug_frame) => debug_frame,
+        Err(ContentsError::OutOfMemory) => return Err(ElfError::OutOfMemory),
+        Err(_refusal) => None,
+    };
+    unwind_sections_with(alloc, file, sections, names, debug_frame)
 }
 
-/// Returns what an unwinder needs of the `.debug_frame` of a file that holds `.eh_frame`, too: for the addresses of which
-/// `.eh_frame` has no row. Without either of them it has no section.
+/// Returns the same with these bytes of `.debug_frame`, as [`read_debug_frame`] returns them.
 ///
 /// # Errors
 ///
 /// `OutOfMemory`.
+pub fn unwind_sections_with(
+    alloc: Global,
+    file: &[u8],
+    sections: &[SectionHeader],
+    names: &[u8],
+    debug_frame: Option<Vec<u8>>,
+) -> Result<ExplicitModuleSectionInfo<Vec<u8>>, ElfError>
+    ensures exact { IfOk result (λ info. sections_view info
+        ≡ unwind_sections_of file.now sections.now names.now (bytes_in debug_frame)) }
+    ensures refused { IfErr result (λ error. error ≡ ElfError.OutOfMemory) }
+{
+    let eh_frame = stored_called(file, sections, names, b".eh_frame");
+    let eh_frame_hdr = stored_called(file, sections, names, b".eh_frame_hdr");
+    Ok(ExplicitModuleSectionInfo {
+        eh_frame_svma: range_of(eh_frame),
+        eh_frame: data_of(alloc, eh_frame)?,
+        eh_frame_hdr_svma: range_of(eh_frame_hdr),
+        eh_frame_hdr: data_of(alloc, eh_frame_hdr)?,
+        ..debug_frame_sections(sections, names, debug_frame)
+    })
+}
+
+/// Returns what an unwinder needs of the `.debug_frame` of a file: where `.text` and `.got` are, and these bytes, as
+/// [`read_debug_frame`] returns them.
+pub fn debug_frame_sections(
+    sections: &[SectionHeader],
+    names: &[u8],
+    debug_frame: Option<Vec<u8>>,
+) -> ExplicitModuleSectionInfo<Vec<u8>>
+    ensures { sections_view result ≡ debug_frame_sections_of sections.now names.now (bytes_in debug_frame) }
+{
+    ExplicitModuleSectionInfo {
+        text_svma: range_called(sections, names, b".text"),
+        got_svma: range_called(sections, names, b".got"),
+        debug_frame,
+        ..ExplicitModuleSectionInfo::default()
+    }
+}
+
+/// Returns whether a file holds `.eh_frame`.
+pub fn has_eh_frame(file: &[u8], sections: &[SectionHeader], names: &[u8]) -> bool
+    ensures { result ≡ has_eh_frame file.now sections.now names.now }
+{
+    stored_called(file, sections, names, b".eh_frame").is_some()
+}
+
+/// Returns what the `.debug_frame` of a file holds, decompressed where it is compressed: `None` where the file has none,
+/// or has no bytes of it.
 ///
-/// Source: DWARF 5 section 6.4.1, "Structure of Call Frame Information".
+/// # Errors
+///
+/// Those of `read_decompressed`, and `OlderForm` where the file has no `.debug_frame` and a `.zdebug_frame`.
+///
+/// Source: DWARF 5 section 6.4.1, "Structure of Call Frame Information"; GNU binutils,
+/// `--compress-debug-sections=zlib-gnu`.
 pub fn read_debug_frame(
     alloc: Global,
     file: &[u8],
     sections: &[SectionHeader],
     names: &[u8],
-) -> Result<ExplicitModuleSectionInfo<Vec<u8>>, ElfError>
-    ensures exact { IfOk result (λ info. sections_view info ≡ debug_frame_of file.now sections.now names.now) }
-    ensures refused { IfErr result (λ error. error ≡ ElfError.OutOfMemory) }
+) -> Result<Option<Vec<u8>>, ContentsError>
+    ensures { MatchResult result
+        (λ bytes. debug_frame_of file.now sections.now names.now ≡ Ok (bytes_in bytes))
+        (λ error. error ≢ ContentsError.OutOfMemory → debug_frame_of file.now sections.now names.now ≡ Err error) }
 {
-    let debug_frame = match stored_called(file, sections, names, b".eh_frame") {
-        Some(_) => stored_called(file, sections, names, b".debug_frame"),
-        None => None,
-    };
-    Ok(ExplicitModuleSectionInfo {
-        text_svma: range_called(sections, names, b".text"),
-        got_svma: range_called(sections, names, b".got"),
-        debug_frame: data_of(alloc, debug_frame)?,
-        ..ExplicitModuleSectionInfo::default()
-    })
+    match section_by_name(sections, names, b".debug_frame") {
+        Some(section) => read_held(alloc, file, section),
+        None if section_by_name(sections, names, b".zdebug_frame").is_some() => {
+            Err(ContentsError::OlderForm)
+        }
+        None => Ok(None),
+    }
+}
+
+/// Returns what a section holds, decompressed where it is compressed: `None` where the file has no bytes of it.
+fn read_held(
+    alloc: Global,
+    file: &[u8],
+    section: SectionHeader,
+) -> Result<Option<Vec<u8>>, ContentsError>
+    ensures { MatchResult result
+        (λ bytes. held_in file.now section ≡ Ok (bytes_in bytes))
+        (λ error. error ≢ ContentsError.OutOfMemory → held_in file.now section ≡ Err error) }
+{
+    if section.sh_type == SHT_NOBITS {
+        return Ok(None);
+    }
+    let contents = read_decompressed(alloc, file, section)?;
+    Ok(Some(contents))
 }
 
 /// Returns the section of a name, if the file holds it.

@@ -10,3 +10,4 @@ pub mod Rva
 pub mod UnwindSections
 pub mod CodeView
 pub mod Exports
+pub mod ErrorText

@@ -18,7 +18,7 @@ pub enum RecordingError {
     #[error("a big-endian recording: offset {offset}")]
     BigEndian { offset: u64 },
     /// The header is that of a pipe, to which `perf record` wrote.
-    #[error("the header of a pipe: offset {offset}; perf inject -i FILE -o OTHER, or perf record -o FILE, makes a file that can be read")]
+    #[error("the header of a pipe: offset {offset}; perf inject --itrace -i FILE -o OTHER, or perf record -o FILE, makes a file that can be read")]
     Piped { offset: u64 },
     /// The header has another size than that of a file.
     #[error("a header of an unknown size: offset {offset}")]
@@ -44,7 +44,7 @@ pub enum RecordingError {
     #[error("a record of a wrong size at offset {offset}")]
     BadRecordSize { offset: u64 },
     /// The record at the offset has compressed records in it.
-    #[error("compressed records at offset {offset}; perf inject -i FILE -o OTHER, or perf record without -z, makes a file that can be read")]
+    #[error("compressed records at offset {offset}; perf record without -z makes a file that can be read")]
     Compressed { offset: u64 },
     /// The record at the offset is of another kind than the one that is to be read.
     #[error("a record of another kind at offset {offset}")]

@@ -4,3 +4,4 @@ mod FileLemmas
 mod MapLemmas
 mod PlaceLemmas
 mod PlainnessLemmas
+mod FrameLemmas

@@ -9,5 +9,6 @@ pub mod Place
 pub mod Code
 pub mod Found
 pub mod DebugFrame
+pub mod FramesText
 pub mod FunctionStart
 pub mod Exports

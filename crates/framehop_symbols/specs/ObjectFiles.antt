@@ -1,11 +1,11 @@
 -- What is kept of the files that processes map, ELF files and PE files, by their bytes.
 -- What a PE file is: Microsoft, "PE Format", by the readers of `framehop_pe_file`.
-use Rattle.std.specs.Prelude.{◌≡◌, ◌⊎◌, ℕ, nat_eq, bit_and, ◌==◌, List, [], ◌∷◌, ◌++◌, map, take, drop, codes, Bool, false, not, ◌&&◌, ◌||◌, length, if◌then◌else◌, Option, Some, None, is_some, option_to_list, unwrap_or, Result, Ok, Err}
+use Rattle.std.specs.Prelude.{◌≡◌, ◌⊎◌, ℕ, nat_eq, bit_and, ◌==◌, List, [], ◌∷◌, ◌++◌, map, take, drop, codes, Bool, false, not, ◌&&◌, ◌||◌, length, if◌then◌else◌, Option, Some, None, option_to_list, unwrap_or, Result, Ok, Err}
 use Rattle.std.specs.List.{starts_with, filter, list_any}
 use Rattle.std.specs.Cmp.Lexicographic.{pointwise}
 use Rattle.std.specs.List.Sorted.{IsPermutation, IsStableByKey}
 use Rattle.std.specs.Ordering.{nat_cmp}
-use Rattle.std.specs.Result.{result_ok}
+use Rattle.std.specs.Result.{result_ok, result_err}
 use Rattle.framehop_bytes.specs.Bytes.{◌>>=◌}
 use Rattle.framehop_bytes.specs.ExplicitSections.{table_of}
 use Rattle.framehop_bytes.specs.declared.section.ExplicitModuleSectionInfo.{ExplicitModuleSectionInfo}
@@ -13,12 +13,12 @@ use Rattle.framehop_elf.specs.BuildId.{build_id_of_file}
 use Rattle.framehop_elf.specs.Header.{file_header_of}
 use Rattle.framehop_elf.specs.ProgramHeader.{program_headers_of}
 use Rattle.framehop_elf.specs.Segment.{loaded_segments_of}
-use Rattle.framehop_elf.specs.Numbers.{SHF_COMPRESSED}
 use Rattle.framehop_elf.specs.Section.{contents_of as contents_in, section_called, section_names_of}
 use Rattle.framehop_elf.specs.SectionHeader.{section_headers_of}
 use Rattle.framehop_bytes.specs.String.{before_nul}
 use Rattle.framehop_elf.specs.Symbol.{start_of, function_symbols_of, symbol_names_of}
-use Rattle.framehop_elf.specs.UnwindSections.{unwind_sections_of, debug_frame_of}
+use Rattle.framehop_elf.specs.UnwindSections.{unwind_sections_of, debug_frame_of, bytes_or_none, has_eh_frame, debug_frame_sections_of}
+use Rattle.framehop_elf.specs.declared.decompressed.ContentsError.{ContentsError}
 use Rattle.framehop_elf.specs.declared.error.ElfError.{ElfError}
 use Rattle.framehop_elf.specs.declared.program_header.ProgramHeader.{ProgramHeader}
 use Rattle.framehop_elf.specs.declared.section_header.SectionHeader.{SectionHeader}
@@ -79,16 +79,9 @@ abbrev pub debug_link_in : List ℕ → HeadersView → List ℕ
 debug_link_in file headers =
     before_nul (contents_or_none file (section_called headers.sections headers.names (codes ".gnu_debuglink")))
 
--- a section is compressed, by its flag (gABI, chapter 4, "Section Compression")
-abbrev pub is_compressed : Option SectionHeader → Bool
-is_compressed (Some section) = not (bit_and section.sh_flags SHF_COMPRESSED == 0)
-is_compressed None = false
-
--- a file has a `.debug_frame` that is compressed: by that flag or, by GNU's older form, under another name
-abbrev pub has_compressed_frames : HeadersView → Bool
-has_compressed_frames headers =
-    is_compressed (section_called headers.sections headers.names (codes ".debug_frame"))
-    || is_some (section_called headers.sections headers.names (codes ".zdebug_frame"))
+-- what the `.debug_frame` of a file holds, decompressed where it is compressed, if the file has one, or why that can't be had
+abbrev pub frames_in : List ℕ → HeadersView → Result (Option (List ℕ)) ContentsError
+frames_in file headers = debug_frame_of file headers.sections headers.names
 
 -- a build id that is wanted is another
 abbrev pub is_another : List ℕ → List ℕ → Bool
@@ -189,12 +182,21 @@ module_of info = record {
   unwind_data = unwind_data_in (λ bytes. bytes) (table_of info);
 }
 
--- the same of a file's sections, and of the `.debug_frame` that it has beside `.eh_frame`
-abbrev pub module_in : List ℕ → HeadersView → ModuleView
-module_in file headers = module_of (unwind_sections_of file headers.sections headers.names)
+-- the same of a file's sections with these bytes of `.debug_frame`, and of these bytes only
+abbrev pub module_with : List ℕ → HeadersView → Option (List ℕ) → ModuleView
+module_with file headers debug_frame = module_of (unwind_sections_of file headers.sections headers.names debug_frame)
 
-abbrev pub debug_frame_in : List ℕ → HeadersView → ModuleView
-debug_frame_in file headers = module_of (debug_frame_of file headers.sections headers.names)
+abbrev pub debug_frame_with : HeadersView → Option (List ℕ) → ModuleView
+debug_frame_with headers debug_frame = module_of (debug_frame_sections_of headers.sections headers.names debug_frame)
+
+-- by these bytes of `.debug_frame` a file's module, where it holds no `.eh_frame`, and else the module beside it
+abbrev pub module_in : List ℕ → HeadersView → Option (List ℕ) → ModuleView
+module_in file headers debug_frame =
+    module_with file headers (if has_eh_frame file headers.sections headers.names then None else debug_frame)
+
+abbrev pub debug_frame_in : List ℕ → HeadersView → Option (List ℕ) → ModuleView
+debug_frame_in file headers debug_frame =
+    debug_frame_with headers (if has_eh_frame file headers.sections headers.names then debug_frame else None)
 
 -- the same of no sections: it has no unwind data
 abbrev pub no_sections : ExplicitModuleSectionInfo (List ℕ)
@@ -245,7 +247,7 @@ pub record Contents : Type 0 where
   pub code : List CodeView
   pub build_id : List ℕ
   pub debug_link : List ℕ
-  pub has_compressed_frames : Bool
+  pub frames_problem : Option ContentsError
   pub loaded : ModuleView
   pub debug_frame : ModuleView
   pub tables : List Listed
@@ -257,9 +259,9 @@ elf_contents file headers = record {
   code = code_of file (loaded_segments_of headers.segments);
   build_id = build_id_in file headers;
   debug_link = debug_link_in file headers;
-  has_compressed_frames = has_compressed_frames headers;
-  loaded = module_in file headers;
-  debug_frame = debug_frame_in file headers;
+  frames_problem = result_err (frames_in file headers);
+  loaded = module_in file headers (bytes_or_none (frames_in file headers));
+  debug_frame = debug_frame_in file headers (bytes_or_none (frames_in file headers));
   tables = tables_of file headers;
 }
 
@@ -321,7 +323,7 @@ pe_contents file header sections = record {
   code = code_of file (map segment_of sections);
   build_id = identity_of file header sections;
   debug_link = [];
-  has_compressed_frames = false;
+  frames_problem = None;
   loaded = pe_module_in file header sections;
   debug_frame = bare_module;
   tables = export_tables_of file header sections;
@@ -375,7 +377,7 @@ pub record IsKeptBy (contents : Contents) (debug : List Listed) (object : Object
   pub code : code_view object.code ≡ contents.code
   pub build_id : object.build_id.items ≡ contents.build_id
   pub debug_link : object.debug_link.items ≡ contents.debug_link
-  pub compressed : object.has_compressed_frames ≡ contents.has_compressed_frames
+  pub frames_problem : object.frames_problem ≡ contents.frames_problem
   pub loaded : object.«module» ≡ contents.loaded
   pub debug_frame : object.debug_frame ≡ contents.debug_frame
   pub tables : AreTables (debug ++ contents.tables) object.symbols.items

@@ -22,6 +22,7 @@ pub mod code_map;
 pub mod debug_frame;
 mod exports;
 pub mod files;
+pub mod frames_text;
 mod function_start;
 pub mod made_up_id;
 pub mod mapped_bytes;

@@ -4,9 +4,11 @@
 //! no address: the modules of all mappings of the file share its unwind data.
 ghost use Rattle.std.specs.Prelude.{◌≡◌, ◌⊎◌, ◌↔◌, IsTrue, ℕ, List, [], ◌++◌, Some, None, Ok, Err, IfOk, IfErr, OnOk, MatchResult, option_map, option_to_list};
 ghost use Rattle.framehop_elf.specs.Symbol.{symbol_for};
+ghost use Rattle.std.specs.Result.{result_err};
+ghost use Rattle.framehop_elf.specs.UnwindSections.{bytes_in, bytes_or_none};
 ghost use Rattle.framehop_elf.specs.declared.error.ElfError.{ElfError};
 ghost use Rattle.framehop_memory.specs.Segment.{base_of};
-ghost use Rattle.framehop_symbols.specs.ObjectFiles.{Contents, Listed, headers_view, headers_of, build_id_in, build_id_by, debug_link_in, has_compressed_frames, contents_of, is_another, is_another_file, problem_by, problem_of, symbols_in, symbols_called, tables_of, debug_tables_of, IsTable, AreTables, module_of, module_in, debug_frame_in, bare_module, export_tables_of, elf_contents_of, pe_contents_of, IsOutOfMemory, IsKeptBy, IsKeptOf};
+ghost use Rattle.framehop_symbols.specs.ObjectFiles.{Contents, Listed, headers_view, headers_of, build_id_in, build_id_by, debug_link_in, frames_in, contents_of, is_another, is_another_file, problem_by, problem_of, symbols_in, symbols_called, tables_of, debug_tables_of, IsTable, AreTables, module_of, module_with, module_in, debug_frame_with, debug_frame_in, bare_module, export_tables_of, elf_contents_of, pe_contents_of, IsOutOfMemory, IsKeptBy, IsKeptOf};
 ghost use Rattle.framehop_symbols.specs.Code.{code_of_object};
 ghost use Rattle.framehop_symbols.specs.MappedBytes.{mapped_sections_view};
 ghost use Rattle.framehop_symbols.specs.Found.{has_names, is_unwind_data};
@@ -25,6 +27,7 @@ use framehop::section::ExplicitModuleSectionInfo;
 use framehop::unwind_data::ModuleUnwindDataInternal;
 use framehop_bytes::string::{before_nul, string_at};
 use framehop_elf::build_id::read_build_id;
+use framehop_elf::decompressed::ContentsError;
 use framehop_elf::error::ElfError;
 use framehop_elf::header::read_file_header;
 use framehop_elf::program_header::{ProgramHeader, read_program_headers};
@@ -32,7 +35,9 @@ use framehop_elf::section::{read_contents, read_section_names, section_by_name};
 use framehop_elf::section_header::{SectionHeader, read_section_headers};
 use framehop_elf::segment::loaded_segments;
 use framehop_elf::symbol::{Symbol, SymbolTable, read_function_symbols, read_symbol_names};
-use framehop_elf::unwind_sections::{read_debug_frame, read_unwind_sections};
+use framehop_elf::unwind_sections::{
+    debug_frame_sections, has_eh_frame, read_debug_frame, unwind_sections_with,
+};
 use framehop_memory::segment::{Segment, base_avma};
 use framehop_pe_file::error::PeError;
 use framehop_pe_file::exports::read_export_directory;
@@ -40,9 +45,6 @@ use framehop_pe_file::header::FileHeader;
 use framehop_pe_file::section_header::SectionHeader as PeSectionHeader;
 use std::alloc::{AllocError, Global};
 use thiserror::Error;
-
-/// `SHF_COMPRESSED`.
-const SHF_COMPRESSED: u64 = 0x800;
 
 /// The functions of a symbol table, and the string table that has their names.
 #[derive(Drop)]
@@ -80,7 +82,8 @@ pub struct ObjectFile<'m> {
     build_id: Vec<u8>,
     /// The name of its debug file by `.gnu_debuglink`: no bytes where it has none.
     debug_link: Vec<u8>,
-    has_compressed_frames: bool,
+    /// Why its `.debug_frame` is not read.
+    frames_problem: Option<ContentsError>,
 }
 
 /// Why a file gives no unwind data and no names.
@@ -191,11 +194,11 @@ impl<'m> ObjectFile<'m> {
         self.debug_link.as_slice()
     }
 
-    /// Returns whether the file has a `.debug_frame` that is compressed, and so is not read.
-    pub fn has_compressed_frames(&self) -> bool
-        ensures { result ≡ self.now.has_compressed_frames }
+    /// Returns why the file's `.debug_frame` is not read, if it has one and that is so.
+    pub fn frames_problem(&self) -> Option<ContentsError>
+        ensures { result ≡ self.now.frames_problem }
     {
-        self.has_compressed_frames
+        self.frames_problem
     }
 
     /// Returns where the stated address 0 of the file is (AVMA), if `size` bytes of it from an offset on are
@@ -309,7 +312,7 @@ fn read_pe<'m>(alloc: Global, bytes: &[u8], wanted: &[u8]) -> Result<ObjectFile<
         debug_frame: bare_module(alloc)?,
         build_id,
         debug_link: Vec::new(alloc),
-        has_compressed_frames: false,
+        frames_problem: None,
     })
 }
 
@@ -357,11 +360,11 @@ fn read_elf<'m>(alloc: Global, bytes: &[u8], wanted: &[u8]) -> Result<ObjectFile
     let segments = loaded_segments(alloc, headers.segments.as_slice())?;
     let code = code_of(alloc, bytes, segments.as_slice())?;
     let symbols = read_all_symbols(alloc, bytes, &headers)?;
-    let module = module_in(alloc, bytes, &headers)?;
-    let debug_frame = debug_frame_in(alloc, bytes, &headers)?;
+    let frames = read_frames(alloc, bytes, &headers)?;
+    let frames_problem = frames.problem;
+    let (module, debug_frame) = modules_in(alloc, bytes, &headers, frames.contents)?;
     let build_id = Vec::from_slice(alloc, found)?;
     let debug_link = Vec::from_slice(alloc, debug_link_in(bytes, &headers))?;
-    let has_compressed_frames = has_compressed_frames(&headers);
     Ok(ObjectFile {
         segments,
         code,
@@ -370,7 +373,7 @@ fn read_elf<'m>(alloc: Global, bytes: &[u8], wanted: &[u8]) -> Result<ObjectFile
         debug_frame,
         build_id,
         debug_link,
-        has_compressed_frames,
+        frames_problem,
     })
 }
 
@@ -409,31 +412,79 @@ fn push_symbols(
     Ok(all.push(symbols)?)
 }
 
-/// Returns a module that lies at no address, with the unwind data of the file's sections.
+/// What is read of the `.debug_frame` of a file.
+#[derive(Drop)]
+struct Frames {
+    /// What it holds, if the file has it.
+    contents: Option<Vec<u8>>,
+    /// Why that can't be had.
+    problem: Option<ContentsError>,
+}
+
+/// Reads the `.debug_frame` of a file. Fails only where an allocation does.
+fn read_frames(alloc: Global, file: &[u8], headers: &Headers<'_>) -> Result<Frames, AllocError>
+    ensures contents { IfOk result (λ frames. bytes_in frames.contents ≡ bytes_or_none (frames_in file.now (headers_view headers.now))) }
+    ensures problem { IfOk result (λ frames. frames.problem ≡ result_err (frames_in file.now (headers_view headers.now))) }
+{
+    match read_debug_frame(alloc, file, headers.sections.as_slice(), headers.names) {
+        Ok(contents) => Ok(Frames {
+            contents,
+            problem: None,
+        }),
+        Err(ContentsError::OutOfMemory) => Err(AllocError),
+        Err(problem) => Ok(Frames {
+            contents: None,
+            problem: Some(problem),
+        }),
+    }
+}
+
+/// Returns two modules that lie at no address: with the unwind data of the file's sections, and with its `.debug_frame`
+/// where it has `.eh_frame`, too. Without either of them the second has no unwind data.
+fn modules_in<'m>(
+    alloc: Global,
+    file: &[u8],
+    headers: &Headers<'_>,
+    debug_frame: Option<Vec<u8>>,
+) -> Result<(Module<MappedBytes<'m>>, Module<MappedBytes<'m>>), ElfError>
+    ensures loaded { IfOk result (λ made. made.0 ≡ module_in file.now (headers_view headers.now) (bytes_in debug_frame)) }
+    ensures debug_frame { IfOk result (λ made. made.1 ≡ debug_frame_in file.now (headers_view headers.now) (bytes_in debug_frame)) }
+    ensures refused { IfErr result (λ error. error ≡ ElfError.OutOfMemory) }
+{
+    if has_eh_frame(file, headers.sections.as_slice(), headers.names) {
+        let module = module_in(alloc, file, headers, None)?;
+        Ok((module, debug_frame_in(alloc, headers, debug_frame)?))
+    } else {
+        let module = module_in(alloc, file, headers, debug_frame)?;
+        Ok((module, debug_frame_in(alloc, headers, None)?))
+    }
+}
+
+/// Returns a module that lies at no address, with the unwind data of the file's sections and these bytes of `.debug_frame`.
 fn module_in<'m>(
     alloc: Global,
     file: &[u8],
     headers: &Headers<'_>,
+    debug_frame: Option<Vec<u8>>,
 ) -> Result<Module<MappedBytes<'m>>, ElfError>
-    ensures loaded { IfOk result (λ made. made ≡ module_in file.now (headers_view headers.now)) }
+    ensures loaded { IfOk result (λ made. made ≡ module_with file.now (headers_view headers.now) (bytes_in debug_frame)) }
     ensures refused { IfErr result (λ error. error ≡ ElfError.OutOfMemory) }
 {
-    let info = read_unwind_sections(alloc, file, headers.sections.as_slice(), headers.names)?;
+    let sections = headers.sections.as_slice();
+    let info = unwind_sections_with(alloc, file, sections, headers.names, debug_frame)?;
     Ok(module_of(alloc, kept_sections(info))?)
 }
 
-/// Returns a module that lies at no address, with the `.debug_frame` of a file that has `.eh_frame`, too: else it has no
-/// unwind data.
+/// Returns a module that lies at no address, with these bytes of `.debug_frame`.
 fn debug_frame_in<'m>(
     alloc: Global,
-    file: &[u8],
     headers: &Headers<'_>,
-) -> Result<Module<MappedBytes<'m>>, ElfError>
-    ensures loaded { IfOk result (λ made. made ≡ debug_frame_in file.now (headers_view headers.now)) }
-    ensures refused { IfErr result (λ error. error ≡ ElfError.OutOfMemory) }
+    debug_frame: Option<Vec<u8>>,
+) -> Result<Module<MappedBytes<'m>>, AllocError>
+    ensures { IfOk result (λ made. made ≡ debug_frame_with (headers_view headers.now) (bytes_in debug_frame)) }
 {
-    let info = read_debug_frame(alloc, file, headers.sections.as_slice(), headers.names)?;
-    Ok(module_of(alloc, kept_sections(info))?)
+    let info = debug_frame_sections(headers.sections.as_slice(), headers.names, debug_frame);
+    module_of(alloc, kept_sections(info))
 }
 
 /// Returns a module that lies at no address, with the unwind data of sections.
@@ -543,20 +594,6 @@ fn debug_link_in<'a>(file: &'a [u8], headers: &Headers<'_>) -> &'a [u8]
         },
         None => &[],
     }
-}
-
-/// Returns whether a file has a `.debug_frame` that is compressed, by its flag or, as older linkers did, by its name.
-///
-/// Source: System V gABI, chapter 4, "Section Compression"; GNU binutils, `--compress-debug-sections=zlib-gnu`.
-fn has_compressed_frames(headers: &Headers<'_>) -> bool
-    ensures { result ≡ has_compressed_frames (headers_view headers.now) }
-{
-    let sections = headers.sections.as_slice();
-    let is_flagged = match section_by_name(sections, headers.names, b".debug_frame") {
-        Some(section) => section.sh_flags & SHF_COMPRESSED != 0,
-        None => false,
-    };
-    is_flagged || section_by_name(sections, headers.names, b".zdebug_frame").is_some()
 }
 
 /// Returns the build id of a file as [`ObjectFile::build_id`] has it, or no bytes where it has none or can't be read.

@@ -73,7 +73,7 @@ pub(crate) fn mapping_asked_for(
 }
 
 /// Returns the mapping that has an address (AVMA), of mappings in order.
-pub(crate) fn mapping_at(mappings: &[Mapping], address: u64) -> Option<Mapping>
+pub fn mapping_at(mappings: &[Mapping], address: u64) -> Option<Mapping>
     requires { IsInOrder 0 mappings.now }
     ensures { result ≡ find (has_address address) mappings.now }
 {

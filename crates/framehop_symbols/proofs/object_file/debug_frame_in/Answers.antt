@@ -1,12 +1,11 @@
-use Rattle.std.proofs.Common.{rules, ◌≡◌, ap}
-use Rattle.framehop_elf.specs.UnwindSections.{debug_frame_of}
+use Rattle.std.proofs.Common.{rules, ◌≡◌, IfOk, ap, subst}
+use Rattle.framehop_elf.specs.UnwindSections.{debug_frame_sections_of, bytes_in}
 use Rattle.framehop_symbols.specs.MappedBytes.{mapped_sections_view}
 use Rattle.framehop_symbols.specs.ObjectFiles.{module_of}
 use Rattle.framehop_symbols.proofs.object_file.debug_frame_in.Goals as goal
 
-pub returns-clause-loaded : goal.returns-clause-loaded
-returns-clause-loaded c =
+pub returns : goal.returns
+returns c =
     let headers = c.args.headers.now in
-    let exact : mapped_sections_view c.kept_sections.result ≡ debug_frame_of c.args.file.now headers.sections.items headers.names.now = search rules in
-    let same = ap module_of exact in
-    search (rules, same)
+    let exact : mapped_sections_view c.kept_sections.result ≡ debug_frame_sections_of headers.sections.items headers.names.now (bytes_in c.args.debug_frame) = search rules in
+    subst (λ found. IfOk c.module_of.result (λ made. made ≡ found)) (ap module_of exact) c.module_of.ensures

@@ -1,12 +1,16 @@
 use Rattle.std.proofs.Common.{rules, ◌≡◌, Ok, ap}
-use Rattle.framehop_symbols.specs.ObjectFiles.{headers_view, headers_of, elf_contents, elf_contents_by}
+use Rattle.framehop_elf.specs.UnwindSections.{bytes_in, bytes_or_none}
+use Rattle.framehop_symbols.specs.ObjectFiles.{headers_view, headers_of, frames_in, module_in, debug_frame_in, elf_contents, elf_contents_by}
 use Rattle.framehop_symbols.proofs.object_file.read_elf.Goals as goal
 
 pub returns-clause-kept : goal.returns-clause-kept
 returns-clause-kept c =
     let file = c.args.bytes.now in
     let view = headers_view c.in_ok-headers.headers in
-    let read : headers_of file ≡ Ok view = search rules in (
+    let read : headers_of file ≡ Ok view = search rules in
+    let contents : bytes_in c.in_ok-frames.frames.contents ≡ bytes_or_none (frames_in file view) = search rules in
+    let loaded = ap (module_in file view) contents in
+    let debug_frame = ap (debug_frame_in file view) contents in (
       elf_contents file view,
       ap (elf_contents_by file) read,
       record {
@@ -14,9 +18,9 @@ returns-clause-kept c =
         code = search rules;
         build_id = search rules;
         debug_link = search rules;
-        compressed = search rules;
-        loaded = search rules;
-        debug_frame = search rules;
+        frames_problem = search rules;
+        loaded = search (rules, loaded);
+        debug_frame = search (rules, debug_frame);
         tables = search rules;
       },
     )

@@ -1,0 +1,7 @@
+mod AdlerLemmas
+mod BitLemmas
+mod CodeLemmas
+mod ElementLemmas
+mod LoopLemmas
+mod ReadLemmas
+mod TableLemmas
