@@ -1,5 +1,5 @@
 #!/usr/bin/env python3
-"""mutate_prologs.py FILE [PLACES]: how often framehop-check notices that an unwind code of a PE file of x86_64 is changed.
+"""mutate_prologs.py FILE [PLACES]: how often framehop-check notices a changed unwind code.
 
 Of each kind of change so many places (60) are tried, the same ones each time: the change counts as found where the program, with --notes,
 prints a line that it does not print of the file as it is.

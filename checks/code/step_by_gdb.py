@@ -1,5 +1,7 @@
 #!/usr/bin/env python3
-"""step_by_gdb.py: steps through the five functions of crates/framehop_check_cli/data/five_functions.so by gdb, instruction by instruction.
+"""step_by_gdb.py: steps through functions by gdb.
+
+They are the five of crates/framehop_check_cli/data/five_functions.so, instruction by instruction.
 
 At each instruction the CFA of its row, as readelf prints the row and as gdb sees the registers, is compared with the one at the function's
 entry: the row is off by the difference. Where framehop-check tells nothing, it must be off by as much as the row that it went on from, which

@@ -1,5 +1,5 @@
 -- The instructions of the machine, read by the opcode maps.
-use Rattle.std.proofs.Common.{◌≡◌, ◌≢◌, ◌⊎◌, ℕ, zero, suc, ◌+◌, ◌*◌, ◌/◌, ◌%◌, ◌^◌, ◌<◌, ◌≤◌, ◌==◌, eq-eqb, ℤ, pos, ◌+ℤ◌, ◌-ℤ◌, Bool, true, false, not, ◌&&◌, ◌||◌, nat_le, if◌then◌else◌, List, [], ◌∷◌, ◌++◌, length, position, take, drop, Option, Some, None, Result, Ok, Err, refl, sym, ap, subst, ◌∙◌, arith, inl, inr}
+use Rattle.std.proofs.Common.{◌≡◌, ◌≢◌, ℕ, zero, suc, ◌+◌, ◌*◌, ◌/◌, ◌%◌, ◌^◌, ◌<◌, ◌≤◌, ◌==◌, eq-eqb, ℤ, pos, ◌+ℤ◌, ◌-ℤ◌, Bool, true, false, not, if◌then◌else◌, List, [], ◌∷◌, ◌++◌, length, position, take, drop, Option, Some, Ok, Err, refl, sym, ap, subst, ◌∙◌, arith, inl, inr}
 use Rattle.std.specs.Prelude.{slice_get, slice_index}
 use Rattle.std.specs.Int.{cast_signed, w8, w32}
 use Rattle.std.proofs.lemmas.Int.{ints}
@@ -10,14 +10,14 @@ use Rattle.framehop_cfi.specs.Numbers.{Parsed, u8_at, u32_at}
 use Rattle.framehop_code.specs.declared.x86_64.opcode.Operands.{Operands}
 use Rattle.framehop_code.specs.declared.x86_64.opcode.Operands.TheVariants.{Bare, ModRm, ModRmThen, Then}
 use Rattle.framehop_code.specs.declared.x86_64.opcode.Operation.{Operation}
-use Rattle.framehop_code.specs.declared.x86_64.opcode.Operation.TheVariants.{Push, Pop, MoveToRm, LoadAddress, Return, Jump, Leave, Group1, Group5}
+use Rattle.framehop_code.specs.declared.x86_64.opcode.Operation.TheVariants.{Push, Pop, MoveToRm, LoadAddress, Return, Jump, Call, Leave, Group1, Group5}
 use Rattle.framehop_code.specs.declared.x86_64.opcode.Operand.TheVariants.{OpcodeRegister}
 use Rattle.framehop_code.specs.declared.x86_64.instruction.Prefixes.{Prefixes}
+use Rattle.framehop_code.specs.declared.x86_64.instruction.Map.TheVariants as map
 use Rattle.framehop_code.specs.declared.x86_64.instruction.Opcode.{Opcode}
 use Rattle.framehop_code.specs.declared.x86_64.instruction.Address.{Address}
 use Rattle.framehop_code.specs.declared.x86_64.instruction.Parts.{Parts}
 use Rattle.framehop_bytes.specs.Minus.{minus}
-use Rattle.framehop_code.specs.declared.effect.Base.{Base}
 use Rattle.framehop_code.specs.declared.effect.Base.TheVariants.{Sp, Fp}
 use Rattle.framehop_code.specs.declared.effect.Change.{Change}
 use Rattle.framehop_code.specs.declared.effect.Change.TheVariants.{Sum, Unknown}
@@ -30,7 +30,7 @@ use Rattle.framehop_code.specs.declared.x86_64.opcode.Immediate.TheVariants as i
 use Rattle.framehop_bytes.specs.Bytes.{◌>>=◌, le4}
 use Rattle.framehop_analysis.specs.X86_64.Machine as machine
 use Rattle.framehop_code.specs.X86_64.Machine.{IsEnd, IsStep, DoesAs, as_numbers, MovesAll, AreAt, signed_of, IsMoveOfSp, add_byte, sub_byte, lea_byte, add_long, sub_long, lea_long, IsEffect, IsAsMachine}
-use Rattle.framehop_code.specs.Effect.{State, Becomes, Does, kept, plain}
+use Rattle.framehop_code.specs.Effect.{Becomes, kept, plain}
 use Rattle.framehop_code.specs.X86_64.Operation.{leading, effect_of}
 use Rattle.framehop_code.specs.X86_64.Opcodes.{one_byte, row_of}
 use Rattle.framehop_code.specs.X86_64.Instruction.{is_legacy_prefix, prefixes_of, prefixes_at, opcode_by, opcode_at, has_sib, displacement_size, signed_at, sib_at, memory_at, address_at, immediate_at, parts_at, effect_in, instruction_at}
@@ -41,7 +41,7 @@ u8-first : (a : ℕ) (rest : List ℕ) → u8_at (a ∷ rest) 0 ≡ Ok (a, 1)
 unfolding u8_at
 u8-first a rest = rw (le-leb 1 (length (a ∷ rest)) (omega arith)) refl
 
-u8-second : (a b : ℕ) (rest : List ℕ) → u8_at (a ∷ b ∷ rest) 1 ≡ Ok (b, 2)
+pub u8-second : (a b : ℕ) (rest : List ℕ) → u8_at (a ∷ b ∷ rest) 1 ≡ Ok (b, 2)
 unfolding u8_at
 u8-second a b rest = rw (le-leb 2 (length (a ∷ b ∷ rest)) (omega arith)) refl
 
@@ -49,7 +49,7 @@ position-here : (f : ℕ → Bool) (a : ℕ) (rest : List ℕ) → f a ≡ true 
 position-here f a rest is = rw is (rw (le-leb 1 (length (a ∷ rest)) (omega arith)) refl)
 
 -- the bytes from an offset on
-from : (text : List ℕ) (at b : ℕ) → slice_get text at ≡ Some b → drop at text ≡ b ∷ drop (suc at) text
+pub from : (text : List ℕ) (at b : ℕ) → slice_get text at ≡ Some b → drop at text ≡ b ∷ drop (suc at) text
 from text at b is =
     drop-cons text at 0 (slice_get_within text at b is)
     ∙ ap (λ (x : ℕ). x ∷ drop (suc at) text) (get_or_from_slice_get text at b 0 is)
@@ -73,20 +73,20 @@ two text at a b is after =
 
 abbrev opcode_record : Prefixes → ℕ → Operands → Operation → Opcode
 opcode_record prefixes byte operands operation =
-    record { prefixes = prefixes; byte = byte; vvvv = 0; operands = operands; operation = operation }
+    record { prefixes = prefixes; map = map.OneByte; byte = byte; vvvv = 0; operands = operands; operation = operation }
 
 abbrev no_address : Address
 no_address = record { modrm = 0; sib = 0; displacement = pos 0 }
 
-plain_parts : Prefixes → ℕ → Operands → Operation → ℕ → Parts
+unfoldable pub plain_parts : Prefixes → ℕ → Operands → Operation → ℕ → Parts
 plain_parts prefixes byte operands operation size = record {
-  opcode = record { prefixes = prefixes; byte = byte; vvvv = 0; operands = operands; operation = operation };
+  opcode = record { prefixes = prefixes; map = map.OneByte; byte = byte; vvvv = 0; operands = operands; operation = operation };
   address = record { modrm = 0; sib = 0; displacement = pos 0 };
   immediate = pos 0;
   size = size;
 }
 
-parts-by : (bytes : List ℕ) (p : Prefixes × ℕ) (o : Opcode × ℕ) (a : Address × ℕ) (i : ℤ × ℕ) → prefixes_at bytes ≡ Ok p
+pub parts-by : (bytes : List ℕ) (p : Prefixes × ℕ) (o : Opcode × ℕ) (a : Address × ℕ) (i : ℤ × ℕ) → prefixes_at bytes ≡ Ok p
     → opcode_at p.0 bytes p.1 ≡ Ok o → address_at o.0.operands bytes o.1 ≡ Ok a → immediate_at o.0 a.0.modrm bytes a.1 ≡ Ok i
     → parts_at bytes ≡ Ok (record { opcode = o.0; address = a.0; immediate = i.0; size = i.1 })
 unfolding parts_at
@@ -104,7 +104,7 @@ unfolding opcode_at
 opcode-at prefixes bytes at byte next is = rw is refl
 
 -- numbers below 8 one by one
-cases-8 : (P : ℕ → Type 0) → P 0 → P 1 → P 2 → P 3 → P 4 → P 5 → P 6 → P 7 → (n : ℕ) → n < 8 → P n
+pub cases-8 : (P : ℕ → Type 0) → P 0 → P 1 → P 2 → P 3 → P 4 → P 5 → P 6 → P 7 → (n : ℕ) → n < 8 → P n
 cases-8 P p0 p1 p2 p3 p4 p5 p6 p7 zero below = p0
 cases-8 P p0 p1 p2 p3 p4 p5 p6 p7 (suc zero) below = p1
 cases-8 P p0 p1 p2 p3 p4 p5 p6 p7 (suc (suc zero)) below = p2
@@ -116,28 +116,38 @@ cases-8 P p0 p1 p2 p3 p4 p5 p6 p7 (suc (suc (suc (suc (suc (suc (suc zero)))))))
 cases-8 P p0 p1 p2 p3 p4 p5 p6 p7 (suc (suc (suc (suc (suc (suc (suc (suc n)))))))) below = absurd (omega (arith, below))
 
 -- an opcode of one byte with nothing after it
+pub bare-parts : (byte : ℕ) (rest : List ℕ) (operation : Operation) → not (is_legacy_prefix byte) ≡ true
+    → (prefixes_of [] byte).rex.present ≡ false
+    → opcode_by (prefixes_of [] byte) (byte ∷ rest) (byte, 1) ≡ Ok (opcode_record (prefixes_of [] byte) byte Bare operation, 1)
+    → parts_at (byte ∷ rest) ≡ Ok (plain_parts (prefixes_of [] byte) byte Bare operation 1)
+unfolding plain_parts
+bare-parts byte rest operation first plain opcode =
+    parts-by (byte ∷ rest) (prefixes_of [] byte, 0) (opcode_record (prefixes_of [] byte) byte Bare operation, 1) (no_address, 1) (pos 0, 1)
+    (prefixes-by (byte ∷ rest) byte 1 (position-here (λ b. not (is_legacy_prefix b)) byte rest first) (u8-first byte rest) ∙ rw plain refl)
+    (opcode-at (prefixes_of [] byte) (byte ∷ rest) 0 byte 1 (u8-first byte rest) ∙ opcode) refl refl
+
 bare : (byte : ℕ) (rest : List ℕ) (operation : Operation) → not (is_legacy_prefix byte) ≡ true
     → (prefixes_of [] byte).rex.present ≡ false
     → opcode_by (prefixes_of [] byte) (byte ∷ rest) (byte, 1) ≡ Ok (opcode_record (prefixes_of [] byte) byte Bare operation, 1)
     → effect_in (parts_at (byte ∷ rest)) ≡ Some (effect_of (plain_parts (prefixes_of [] byte) byte Bare operation 1))
-unfolding plain_parts
-bare byte rest operation first plain opcode =
-    ap effect_in
-    (parts-by (byte ∷ rest) (prefixes_of [] byte, 0) (opcode_record (prefixes_of [] byte) byte Bare operation, 1) (no_address, 1) (pos 0, 1)
-    (prefixes-by (byte ∷ rest) byte 1 (position-here (λ b. not (is_legacy_prefix b)) byte rest first) (u8-first byte rest) ∙ rw plain refl)
-    (opcode-at (prefixes_of [] byte) (byte ∷ rest) 0 byte 1 (u8-first byte rest) ∙ opcode) refl refl)
+bare byte rest operation first plain opcode = ap effect_in (bare-parts byte rest operation first plain opcode)
 
 -- the same after a prefix REX
+pub rex-bare-parts : (rex byte : ℕ) (rest : List ℕ) (operation : Operation) → not (is_legacy_prefix rex) ≡ true
+    → (prefixes_of [] rex).rex.present ≡ true
+    → opcode_by (prefixes_of [] rex) (rex ∷ byte ∷ rest) (byte, 2) ≡ Ok (opcode_record (prefixes_of [] rex) byte Bare operation, 2)
+    → parts_at (rex ∷ byte ∷ rest) ≡ Ok (plain_parts (prefixes_of [] rex) byte Bare operation 2)
+unfolding plain_parts
+rex-bare-parts rex byte rest operation first present opcode =
+    parts-by (rex ∷ byte ∷ rest) (prefixes_of [] rex, 1) (opcode_record (prefixes_of [] rex) byte Bare operation, 2) (no_address, 2) (pos 0, 2)
+    (prefixes-by (rex ∷ byte ∷ rest) rex 1 (position-here (λ b. not (is_legacy_prefix b)) rex (byte ∷ rest) first) (u8-first rex (byte ∷ rest)) ∙ rw present refl)
+    (opcode-at (prefixes_of [] rex) (rex ∷ byte ∷ rest) 1 byte 2 (u8-second rex byte rest) ∙ opcode) refl refl
+
 rex-bare : (rex byte : ℕ) (rest : List ℕ) (operation : Operation) → not (is_legacy_prefix rex) ≡ true
     → (prefixes_of [] rex).rex.present ≡ true
     → opcode_by (prefixes_of [] rex) (rex ∷ byte ∷ rest) (byte, 2) ≡ Ok (opcode_record (prefixes_of [] rex) byte Bare operation, 2)
     → effect_in (parts_at (rex ∷ byte ∷ rest)) ≡ Some (effect_of (plain_parts (prefixes_of [] rex) byte Bare operation 2))
-unfolding plain_parts
-rex-bare rex byte rest operation first present opcode =
-    ap effect_in
-    (parts-by (rex ∷ byte ∷ rest) (prefixes_of [] rex, 1) (opcode_record (prefixes_of [] rex) byte Bare operation, 2) (no_address, 2) (pos 0, 2)
-    (prefixes-by (rex ∷ byte ∷ rest) rex 1 (position-here (λ b. not (is_legacy_prefix b)) rex (byte ∷ rest) first) (u8-first rex (byte ∷ rest)) ∙ rw present refl)
-    (opcode-at (prefixes_of [] rex) (rex ∷ byte ∷ rest) 1 byte 2 (u8-second rex byte rest) ∙ opcode) refl refl)
+rex-bare rex byte rest operation first present opcode = ap effect_in (rex-bare-parts rex byte rest operation first present opcode)
 
 -- ---- pushes and pops
 
@@ -242,7 +252,7 @@ three text at a b c is second third =
     ∙ ap (λ (bytes : List ℕ). effect_in (parts_at (a ∷ b ∷ take 13 bytes))) (from text (suc (suc at)) c (subst (λ n. slice_get text n ≡ Some c) next third))
 
 -- a ModRM byte whose r/m is a register, with nothing after it
-register-address : ℕ → Address
+unfoldable pub register-address : ℕ → Address
 register-address modrm = record { modrm = modrm; sib = 0; displacement = pos 0 }
 
 memory-register : (bytes : List ℕ) (at modrm next : ℕ) → u8_at bytes at ≡ Ok (modrm, next) → has_sib modrm ≡ false
@@ -252,7 +262,7 @@ memory-register bytes at modrm next byte no_sib none fits =
     rw byte (rw no_sib (rw none (rw (le-leb (next + 0) (length bytes) (omega (arith, fits))) refl)))
 
 -- MOV from a register to a register, of 64 bits
-move-parts : ℕ → Parts
+unfoldable pub move-parts : ℕ → Parts
 move-parts modrm = record {
   opcode = opcode_record (prefixes_of [] 0x48) 0x89 ModRm MoveToRm;
   address = register-address modrm;
@@ -260,16 +270,19 @@ move-parts modrm = record {
   size = 3;
 }
 
-move : (modrm : ℕ) (rest : List ℕ) → has_sib modrm ≡ false → displacement_size modrm 0 ≡ 0
-    → effect_in (parts_at (0x48 ∷ 0x89 ∷ modrm ∷ rest)) ≡ Some (effect_of (move-parts modrm))
+pub move-has-parts : (modrm : ℕ) (rest : List ℕ) → has_sib modrm ≡ false → displacement_size modrm 0 ≡ 0
+    → parts_at (0x48 ∷ 0x89 ∷ modrm ∷ rest) ≡ Ok (move-parts modrm)
 unfolding one_byte row_of move-parts
-move modrm rest no_sib none =
-    ap effect_in
-    (parts-by (0x48 ∷ 0x89 ∷ modrm ∷ rest) (prefixes_of [] 0x48, 1) (opcode_record (prefixes_of [] 0x48) 0x89 ModRm MoveToRm, 2)
+move-has-parts modrm rest no_sib none =
+    parts-by (0x48 ∷ 0x89 ∷ modrm ∷ rest) (prefixes_of [] 0x48, 1) (opcode_record (prefixes_of [] 0x48) 0x89 ModRm MoveToRm, 2)
     (register-address modrm, 3) (pos 0, 3)
     (prefixes-by (0x48 ∷ 0x89 ∷ modrm ∷ rest) 0x48 1 (position-here (λ b. not (is_legacy_prefix b)) 0x48 (0x89 ∷ modrm ∷ rest) refl) (u8-first 0x48 (0x89 ∷ modrm ∷ rest)))
     (opcode-at (prefixes_of [] 0x48) (0x48 ∷ 0x89 ∷ modrm ∷ rest) 1 0x89 2 (u8-second 0x48 0x89 (modrm ∷ rest)))
-    (memory-register (0x48 ∷ 0x89 ∷ modrm ∷ rest) 2 modrm 3 (u8-third 0x48 0x89 modrm rest) no_sib none (omega arith)) refl)
+    (memory-register (0x48 ∷ 0x89 ∷ modrm ∷ rest) 2 modrm 3 (u8-third 0x48 0x89 modrm rest) no_sib none (omega arith)) refl
+
+move : (modrm : ℕ) (rest : List ℕ) → has_sib modrm ≡ false → displacement_size modrm 0 ≡ 0
+    → effect_in (parts_at (0x48 ∷ 0x89 ∷ modrm ∷ rest)) ≡ Some (effect_of (move-parts modrm))
+move modrm rest no_sib none = ap effect_in (move-has-parts modrm rest no_sib none)
 
 source_change : ℕ → Change
 source_change source = if source == 4 then kept Sp else (if source == 5 then kept Fp else Unknown)
@@ -632,7 +645,7 @@ leaves text at e (machine.by_jmp_rm64 modrm byte second four) is =
 -- ---- forms that the machine lacks
 
 -- the bytes at an offset, and what comes after them
-taken : (text : List ℕ) (at : ℕ) (bytes : List ℕ) → AreAt text at bytes → drop at text ≡ bytes ++ drop (at + length bytes) text
+pub taken : (text : List ℕ) (at : ℕ) (bytes : List ℕ) → AreAt text at bytes → drop at text ≡ bytes ++ drop (at + length bytes) text
 taken text at [] are = let e : at + 0 ≡ at = omega arith in ap (λ (n : ℕ). drop n text) (sym e)
 taken text at (b ∷ bytes) are =
     let next : at + 1 ≡ suc at = omega arith in
@@ -656,11 +669,27 @@ u8-fourth : (a b c d : ℕ) (rest : List ℕ) → u8_at (a ∷ b ∷ c ∷ d ∷
 unfolding u8_at
 u8-fourth a b c d rest = rw (le-leb 4 (length (a ∷ b ∷ c ∷ d ∷ rest)) (omega arith)) refl
 
-u8-fifth : (a b c d e : ℕ) (rest : List ℕ) → u8_at (a ∷ b ∷ c ∷ d ∷ e ∷ rest) 4 ≡ Ok (e, 5)
+pub u8-fifth : (a b c d e : ℕ) (rest : List ℕ) → u8_at (a ∷ b ∷ c ∷ d ∷ e ∷ rest) 4 ≡ Ok (e, 5)
 unfolding u8_at
 u8-fifth a b c d e rest = rw (le-leb 5 (length (a ∷ b ∷ c ∷ d ∷ e ∷ rest)) (omega arith)) refl
 
 -- group 1 of rsp with an immediate operand
+pub sum-byte-parts : (modrm a : ℕ) (rest : List ℕ) → has_sib modrm ≡ false → displacement_size modrm 0 ≡ 0
+    → parts_at (0x48 ∷ 0x83 ∷ modrm ∷ a ∷ rest) ≡ Ok (record {
+      opcode = opcode_record (prefixes_of [] 0x48) 0x83 (ModRmThen Byte) Group1;
+      address = register-address modrm;
+      immediate = cast_signed w8 a;
+      size = 4;
+    })
+unfolding one_byte row_of signed_at
+sum-byte-parts modrm a rest no_sib none =
+    parts-by (0x48 ∷ 0x83 ∷ modrm ∷ a ∷ rest) (prefixes_of [] 0x48, 1) (opcode_record (prefixes_of [] 0x48) 0x83 (ModRmThen Byte) Group1, 2)
+    (register-address modrm, 3) (cast_signed w8 a, 4)
+    (prefixes-by (0x48 ∷ 0x83 ∷ modrm ∷ a ∷ rest) 0x48 1 (position-here (λ b. not (is_legacy_prefix b)) 0x48 (0x83 ∷ modrm ∷ a ∷ rest) refl) (u8-first 0x48 (0x83 ∷ modrm ∷ a ∷ rest)))
+    (opcode-at (prefixes_of [] 0x48) (0x48 ∷ 0x83 ∷ modrm ∷ a ∷ rest) 1 0x83 2 (u8-second 0x48 0x83 (modrm ∷ a ∷ rest)))
+    (memory-register (0x48 ∷ 0x83 ∷ modrm ∷ a ∷ rest) 2 modrm 3 (u8-third 0x48 0x83 modrm (a ∷ rest)) no_sib none (omega arith))
+    (rw (u8-fourth 0x48 0x83 modrm a rest) refl)
+
 sum-byte : (modrm a : ℕ) (rest : List ℕ) → has_sib modrm ≡ false → displacement_size modrm 0 ≡ 0
     → effect_in (parts_at (0x48 ∷ 0x83 ∷ modrm ∷ a ∷ rest)) ≡ Some (effect_of (record {
       opcode = opcode_record (prefixes_of [] 0x48) 0x83 (ModRmThen Byte) Group1;
@@ -668,15 +697,7 @@ sum-byte : (modrm a : ℕ) (rest : List ℕ) → has_sib modrm ≡ false → dis
       immediate = cast_signed w8 a;
       size = 4;
     }))
-unfolding one_byte row_of signed_at
-sum-byte modrm a rest no_sib none =
-    ap effect_in
-    (parts-by (0x48 ∷ 0x83 ∷ modrm ∷ a ∷ rest) (prefixes_of [] 0x48, 1) (opcode_record (prefixes_of [] 0x48) 0x83 (ModRmThen Byte) Group1, 2)
-    (register-address modrm, 3) (cast_signed w8 a, 4)
-    (prefixes-by (0x48 ∷ 0x83 ∷ modrm ∷ a ∷ rest) 0x48 1 (position-here (λ b. not (is_legacy_prefix b)) 0x48 (0x83 ∷ modrm ∷ a ∷ rest) refl) (u8-first 0x48 (0x83 ∷ modrm ∷ a ∷ rest)))
-    (opcode-at (prefixes_of [] 0x48) (0x48 ∷ 0x83 ∷ modrm ∷ a ∷ rest) 1 0x83 2 (u8-second 0x48 0x83 (modrm ∷ a ∷ rest)))
-    (memory-register (0x48 ∷ 0x83 ∷ modrm ∷ a ∷ rest) 2 modrm 3 (u8-third 0x48 0x83 modrm (a ∷ rest)) no_sib none (omega arith))
-    (rw (u8-fourth 0x48 0x83 modrm a rest) refl))
+sum-byte modrm a rest no_sib none = ap effect_in (sum-byte-parts modrm a rest no_sib none)
 
 add-byte : (a : ℕ) (rest : List ℕ) → effect_in (parts_at (0x48 ∷ 0x83 ∷ 0xC4 ∷ a ∷ rest)) ≡ Some (moved_sp 4 (cast_signed w8 a))
 unfolding moved_sp effect_of register-address
@@ -687,13 +708,64 @@ unfolding moved_sp effect_of register-address
 sub-byte a rest = sum-byte 0xEC a rest refl refl
 
 -- a signed number of four bytes
-four-bytes : (bytes : List ℕ) (at a b c d : ℕ) → at + 4 ≤ length bytes → slice_index bytes at ≡ a → slice_index bytes (at + 1) ≡ b
+pub four-bytes : (bytes : List ℕ) (at a b c d : ℕ) → at + 4 ≤ length bytes → slice_index bytes at ≡ a → slice_index bytes (at + 1) ≡ b
     → slice_index bytes (at + 2) ≡ c → slice_index bytes (at + 2 + 1) ≡ d
     → signed_at bytes at 4 ≡ Ok (signed_of a b c d, at + 4)
 unfolding signed_at u32_at
 four-bytes bytes at a b c d fits first second third fourth =
     let same : le4 bytes at ≡ a + 2 ^ 8 * b + 2 ^ 16 * c + 2 ^ 24 * d = omega (arith, first, second, third, fourth) in
     rw (le-leb (at + 4) (length bytes) fits) (ap (λ (n : ℕ). Ok (cast_signed w32 n, at + 4)) same)
+
+-- direct jumps and calls
+abbrev near_parts : ℕ → Immediate → Operation → ℤ → ℕ → Parts
+near_parts byte immediate operation distance size = record {
+  opcode = opcode_record (prefixes_of [] byte) byte (Then immediate) operation;
+  address = no_address;
+  immediate = distance;
+  size = size;
+}
+
+pub jump-byte-parts : (a : ℕ) (rest : List ℕ) → parts_at (0xEB ∷ a ∷ rest) ≡ Ok (near_parts 0xEB Byte Jump (cast_signed w8 a) 2)
+unfolding one_byte row_of signed_at
+jump-byte-parts a rest =
+    let start = opened 0xEB (a ∷ rest) (Then Byte) Jump refl refl refl in
+    parts-by (0xEB ∷ a ∷ rest) (prefixes_of [] 0xEB, 0) (opcode_record (prefixes_of [] 0xEB) 0xEB (Then Byte) Jump, 1) (no_address, 1)
+    (cast_signed w8 a, 2) start.0 start.1 refl (rw (u8-second 0xEB a rest) refl)
+
+pub jump-long-parts : (a b c d : ℕ) (rest : List ℕ)
+    → parts_at (0xE9 ∷ a ∷ b ∷ c ∷ d ∷ rest) ≡ Ok (near_parts 0xE9 Near Jump (signed_of a b c d) 5)
+unfolding one_byte row_of
+jump-long-parts a b c d rest =
+    let bytes = 0xE9 ∷ a ∷ b ∷ c ∷ d ∷ rest in
+    let start = opened 0xE9 (a ∷ b ∷ c ∷ d ∷ rest) (Then Near) Jump refl refl refl in
+    parts-by bytes (prefixes_of [] 0xE9, 0) (opcode_record (prefixes_of [] 0xE9) 0xE9 (Then Near) Jump, 1) (no_address, 1)
+    (signed_of a b c d, 5) start.0 start.1 refl (four-bytes bytes 1 a b c d (omega arith) refl refl refl refl)
+
+pub call-long-parts : (a b c d : ℕ) (rest : List ℕ)
+    → parts_at (0xE8 ∷ a ∷ b ∷ c ∷ d ∷ rest) ≡ Ok (near_parts 0xE8 Near Call (signed_of a b c d) 5)
+unfolding one_byte row_of
+call-long-parts a b c d rest =
+    let bytes = 0xE8 ∷ a ∷ b ∷ c ∷ d ∷ rest in
+    let start = opened 0xE8 (a ∷ b ∷ c ∷ d ∷ rest) (Then Near) Call refl refl refl in
+    parts-by bytes (prefixes_of [] 0xE8, 0) (opcode_record (prefixes_of [] 0xE8) 0xE8 (Then Near) Call, 1) (no_address, 1)
+    (signed_of a b c d, 5) start.0 start.1 refl (four-bytes bytes 1 a b c d (omega arith) refl refl refl refl)
+
+pub sum-long-parts : (modrm a b c d : ℕ) (rest : List ℕ) → has_sib modrm ≡ false → displacement_size modrm 0 ≡ 0
+    → parts_at (0x48 ∷ 0x81 ∷ modrm ∷ a ∷ b ∷ c ∷ d ∷ rest) ≡ Ok (record {
+      opcode = opcode_record (prefixes_of [] 0x48) 0x81 (ModRmThen immediate.Long) Group1;
+      address = register-address modrm;
+      immediate = signed_of a b c d;
+      size = 7;
+    })
+unfolding one_byte row_of
+sum-long-parts modrm a b c d rest no_sib none =
+    let bytes = 0x48 ∷ 0x81 ∷ modrm ∷ a ∷ b ∷ c ∷ d ∷ rest in
+    parts-by bytes (prefixes_of [] 0x48, 1) (opcode_record (prefixes_of [] 0x48) 0x81 (ModRmThen immediate.Long) Group1, 2)
+    (register-address modrm, 3) (signed_of a b c d, 7)
+    (prefixes-by bytes 0x48 1 (position-here (λ b. not (is_legacy_prefix b)) 0x48 (0x81 ∷ modrm ∷ a ∷ b ∷ c ∷ d ∷ rest) refl) (u8-first 0x48 (0x81 ∷ modrm ∷ a ∷ b ∷ c ∷ d ∷ rest)))
+    (opcode-at (prefixes_of [] 0x48) bytes 1 0x81 2 (u8-second 0x48 0x81 (modrm ∷ a ∷ b ∷ c ∷ d ∷ rest)))
+    (memory-register bytes 2 modrm 3 (u8-third 0x48 0x81 modrm (a ∷ b ∷ c ∷ d ∷ rest)) no_sib none (omega arith))
+    (four-bytes bytes 3 a b c d (omega arith) refl refl refl refl)
 
 sum-long : (modrm a b c d : ℕ) (rest : List ℕ) → has_sib modrm ≡ false → displacement_size modrm 0 ≡ 0
     → effect_in (parts_at (0x48 ∷ 0x81 ∷ modrm ∷ a ∷ b ∷ c ∷ d ∷ rest)) ≡ Some (effect_of (record {
@@ -702,16 +774,7 @@ sum-long : (modrm a b c d : ℕ) (rest : List ℕ) → has_sib modrm ≡ false �
       immediate = signed_of a b c d;
       size = 7;
     }))
-unfolding one_byte row_of
-sum-long modrm a b c d rest no_sib none =
-    let bytes = 0x48 ∷ 0x81 ∷ modrm ∷ a ∷ b ∷ c ∷ d ∷ rest in
-    ap effect_in
-    (parts-by bytes (prefixes_of [] 0x48, 1) (opcode_record (prefixes_of [] 0x48) 0x81 (ModRmThen immediate.Long) Group1, 2)
-    (register-address modrm, 3) (signed_of a b c d, 7)
-    (prefixes-by bytes 0x48 1 (position-here (λ b. not (is_legacy_prefix b)) 0x48 (0x81 ∷ modrm ∷ a ∷ b ∷ c ∷ d ∷ rest) refl) (u8-first 0x48 (0x81 ∷ modrm ∷ a ∷ b ∷ c ∷ d ∷ rest)))
-    (opcode-at (prefixes_of [] 0x48) bytes 1 0x81 2 (u8-second 0x48 0x81 (modrm ∷ a ∷ b ∷ c ∷ d ∷ rest)))
-    (memory-register bytes 2 modrm 3 (u8-third 0x48 0x81 modrm (a ∷ b ∷ c ∷ d ∷ rest)) no_sib none (omega arith))
-    (four-bytes bytes 3 a b c d (omega arith) refl refl refl refl))
+sum-long modrm a b c d rest no_sib none = ap effect_in (sum-long-parts modrm a b c d rest no_sib none)
 
 add-long : (a b c d : ℕ) (rest : List ℕ)
     → effect_in (parts_at (0x48 ∷ 0x81 ∷ 0xC4 ∷ a ∷ b ∷ c ∷ d ∷ rest)) ≡ Some (moved_sp 7 (signed_of a b c d))
@@ -730,7 +793,7 @@ memory-by : (bytes : List ℕ) (at modrm next sib after : ℕ) (displacement : �
 unfolding memory_at
 memory-by bytes at modrm next sib after displacement first second third = rw first (rw second (rw third refl))
 
-load-parts : ℕ → ℤ → ℕ → Parts
+unfoldable pub load-parts : ℕ → ℤ → ℕ → Parts
 load-parts modrm displacement size = record {
   opcode = opcode_record (prefixes_of [] 0x48) 0x8D ModRm LoadAddress;
   address = record { modrm = modrm; sib = 0x24; displacement = displacement };
@@ -738,20 +801,24 @@ load-parts modrm displacement size = record {
   size = size;
 }
 
-lea : (modrm : ℕ) (rest : List ℕ) (displacement : ℤ) (size : ℕ) → has_sib modrm ≡ true
+pub lea-parts : (modrm : ℕ) (rest : List ℕ) (displacement : ℤ) (size : ℕ) → has_sib modrm ≡ true
     → signed_at (0x48 ∷ 0x8D ∷ modrm ∷ 0x24 ∷ rest) 4 (displacement_size modrm 0x24) ≡ Ok (displacement, size)
-    → effect_in (parts_at (0x48 ∷ 0x8D ∷ modrm ∷ 0x24 ∷ rest)) ≡ Some (effect_of (load-parts modrm displacement size))
+    → parts_at (0x48 ∷ 0x8D ∷ modrm ∷ 0x24 ∷ rest) ≡ Ok (load-parts modrm displacement size)
 unfolding one_byte row_of load-parts sib_at
-lea modrm rest displacement size with_sib read =
+lea-parts modrm rest displacement size with_sib read =
     let bytes = 0x48 ∷ 0x8D ∷ modrm ∷ 0x24 ∷ rest in
-    ap effect_in
-    (parts-by bytes (prefixes_of [] 0x48, 1) (opcode_record (prefixes_of [] 0x48) 0x8D ModRm LoadAddress, 2)
+    parts-by bytes (prefixes_of [] 0x48, 1) (opcode_record (prefixes_of [] 0x48) 0x8D ModRm LoadAddress, 2)
     (record { modrm = modrm; sib = 0x24; displacement = displacement }, size) (pos 0, size)
     (prefixes-by bytes 0x48 1 (position-here (λ b. not (is_legacy_prefix b)) 0x48 (0x8D ∷ modrm ∷ 0x24 ∷ rest) refl) (u8-first 0x48 (0x8D ∷ modrm ∷ 0x24 ∷ rest)))
     (opcode-at (prefixes_of [] 0x48) bytes 1 0x8D 2 (u8-second 0x48 0x8D (modrm ∷ 0x24 ∷ rest)))
     (memory-by bytes 2 modrm 3 0x24 4 (displacement, size) (u8-third 0x48 0x8D modrm (0x24 ∷ rest))
     (rw with_sib (u8-fourth 0x48 0x8D modrm 0x24 rest)) read)
-    refl)
+    refl
+
+lea : (modrm : ℕ) (rest : List ℕ) (displacement : ℤ) (size : ℕ) → has_sib modrm ≡ true
+    → signed_at (0x48 ∷ 0x8D ∷ modrm ∷ 0x24 ∷ rest) 4 (displacement_size modrm 0x24) ≡ Ok (displacement, size)
+    → effect_in (parts_at (0x48 ∷ 0x8D ∷ modrm ∷ 0x24 ∷ rest)) ≡ Some (effect_of (load-parts modrm displacement size))
+lea modrm rest displacement size with_sib read = ap effect_in (lea-parts modrm rest displacement size with_sib read)
 
 lea-byte : (a : ℕ) (rest : List ℕ) → effect_in (parts_at (0x48 ∷ 0x8D ∷ 0x64 ∷ 0x24 ∷ a ∷ rest)) ≡ Some (moved_sp 5 (cast_signed w8 a))
 unfolding moved_sp effect_of load-parts signed_at

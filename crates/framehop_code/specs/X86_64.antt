@@ -2,4 +2,8 @@
 pub mod Opcodes
 pub mod Operation
 pub mod Instruction
+pub mod Operand
+pub mod Written
+pub mod Action
 pub mod Machine
+pub mod MachineActions

@@ -3,9 +3,12 @@ ghost use Rattle.std.specs.Prelude.{◌≡◌, ◌+◌, ◌<◌, ◌≤◌, pos,
 ghost use Rattle.framehop_code.specs.X86_64.Instruction.{instruction_at, base_numbered};
 ghost use Rattle.framehop_cfi.specs.X86_64 as columns;
 
+pub mod action;
 pub mod instruction;
 pub mod opcode;
+pub mod operand;
 pub mod operation;
+pub mod written;
 
 use crate::effect::{Base, Code, Effect};
 use framehop_cfi::rule::Register;

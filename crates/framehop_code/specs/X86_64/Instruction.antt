@@ -18,6 +18,9 @@ use Rattle.framehop_code.specs.declared.x86_64.opcode.Operands.TheVariants.{Bare
 use Rattle.framehop_code.specs.declared.x86_64.opcode.Opcodes.{Opcodes}
 use Rattle.framehop_code.specs.declared.x86_64.instruction.Rex.{Rex}
 use Rattle.framehop_code.specs.declared.x86_64.instruction.Prefixes.{Prefixes}
+use Rattle.framehop_code.specs.declared.x86_64.instruction.Map.{Map}
+use Rattle.framehop_code.specs.declared.x86_64.instruction.Map.TheVariants as map
+use Rattle.framehop_code.specs.declared.x86_64.instruction.Vector.{Vector}
 use Rattle.framehop_code.specs.declared.x86_64.instruction.Opcode.{Opcode}
 use Rattle.framehop_code.specs.declared.x86_64.instruction.Address.{Address}
 use Rattle.framehop_code.specs.declared.x86_64.instruction.Parts.{Parts}
@@ -60,6 +63,8 @@ prefixes_of legacy first =
       operand_size = list_any (λ byte. byte == 0x66) legacy;
       address_size = list_any (λ byte. byte == 0x67) legacy;
       repeated = list_any (λ byte. byte == 0xF2) legacy || list_any (λ byte. byte == 0xF3) legacy;
+      repeated_unequal = list_any (λ byte. byte == 0xF2) legacy;
+      segment = list_any (λ byte. byte == 0x64) legacy || list_any (λ byte. byte == 0x65) legacy;
       rex = rex_of first;
     }
 
@@ -76,15 +81,15 @@ prefixes_at bytes = prefixes_before bytes (position (λ byte. not (is_legacy_pre
 -- ---- opcodes
 
 -- an opcode with its row
-abbrev pub opcode_of_row : Prefixes → ℕ → ℕ → Option Opcodes → Result Opcode ReadError
-opcode_of_row prefixes byte vvvv None = Err UnknownInstruction
-opcode_of_row prefixes byte vvvv (Some row) =
-    Ok (record { prefixes = prefixes; byte = byte; vvvv = vvvv; operands = row.2; operation = row.3 })
+abbrev pub opcode_of_row : Prefixes → Map → ℕ → ℕ → Option Opcodes → Result Opcode ReadError
+opcode_of_row prefixes map byte vvvv None = Err UnknownInstruction
+opcode_of_row prefixes map byte vvvv (Some row) =
+    Ok (record { prefixes = prefixes; map = map; byte = byte; vvvv = vvvv; operands = row.2; operation = row.3 })
 
 -- a byte, and the opcode that it is with its row
-abbrev pub opcode_in : Prefixes → ℕ → (ℕ → Option Opcodes) → ℕ × ℕ → Parsed Opcode
-opcode_in prefixes vvvv rows byte =
-    opcode_of_row prefixes byte.0 vvvv (rows byte.0) >>= λ opcode. Ok (opcode, byte.1)
+abbrev pub opcode_in : Prefixes → Map → ℕ → (ℕ → Option Opcodes) → ℕ × ℕ → Parsed Opcode
+opcode_in prefixes map vvvv rows byte =
+    opcode_of_row prefixes map byte.0 vvvv (rows byte.0) >>= λ opcode. Ok (opcode, byte.1)
 
 -- the prefixes that VEX, EVEX or XOP has: its first byte has R, X and B inverted, its second one W and pp, which is 1 for
 -- 66, 2 for F3 and 3 for F2
@@ -94,6 +99,8 @@ vector_prefixes prefixes high low =
       operand_size = low % 4 == 1;
       address_size = prefixes.address_size;
       repeated = nat_le 2 (low % 4);
+      repeated_unequal = low % 4 == 3;
+      segment = prefixes.segment;
       rex = record {
         present = true;
         w = bit low 7;
@@ -103,26 +110,45 @@ vector_prefixes prefixes high low =
       };
     }
 
+-- the map and the vector's size of VEX or XOP: L is 1 for 32 bytes
+abbrev pub vex_vector : ℕ → ℕ → Vector
+vex_vector map low = record { map = map; size = if bit low 2 then 32 else 16; is_evex = false; is_extended = false }
+
+-- the vector's size by L'L of EVEX
+abbrev pub evex_size : ℕ → ℕ
+evex_size length = if length == 0 then 16 else (if length == 1 then 32 else 64)
+
+-- those of EVEX, by its three bytes. Bit 3 of the first, and bit 2 of the second inverted, name registers from 16 on
+abbrev pub evex_vector : ℕ → ℕ → ℕ → Vector
+evex_vector high low mask =
+    record {
+      map = high % 8;
+      size = evex_size (mask / 32 % 4);
+      is_evex = true;
+      is_extended = bit high 3 || not (bit low 2);
+    }
+
 -- the inverted number of vvvv
 abbrev pub vvvv_of : ℕ → ℕ
 vvvv_of low = 15 - low / 8 % 16
 
 -- the opcode after a prefix VEX, EVEX or XOP
-unfoldable pub vector_opcode_at : Prefixes → ℕ → ℕ → List ℕ → ℕ → Parsed Opcode
-vector_opcode_at prefixes map vvvv bytes at = u8_at bytes at >>= opcode_in prefixes vvvv (vector map)
+unfoldable pub vector_opcode_at : Prefixes → Vector → ℕ → List ℕ → ℕ → Parsed Opcode
+vector_opcode_at prefixes fields vvvv bytes at =
+    u8_at bytes at >>= opcode_in prefixes (map.Vector fields) vvvv (vector fields.map)
 
 -- after C4, VEX of three bytes, or 8F, XOP
 unfoldable pub long_vector_at : Prefixes → List ℕ → ℕ → Parsed Opcode
 long_vector_at prefixes bytes at = do
   high ← u8_at bytes at
   low ← u8_at bytes high.1
-  vector_opcode_at (vector_prefixes prefixes high.0 low.0) (high.0 % 32) (vvvv_of low.0) bytes low.1
+  vector_opcode_at (vector_prefixes prefixes high.0 low.0) (vex_vector (high.0 % 32) low.0) (vvvv_of low.0) bytes low.1
 
 -- after C5, VEX of two bytes: X, B and W are 0, and the map is 1
 unfoldable pub short_vector_at : Prefixes → List ℕ → ℕ → Parsed Opcode
 short_vector_at prefixes bytes at = do
   low ← u8_at bytes at
-  vector_opcode_at (vector_prefixes prefixes (low.0 / 128 * 128 + 0x7F) (low.0 % 128)) 1 (vvvv_of low.0) bytes low.1
+  vector_opcode_at (vector_prefixes prefixes (low.0 / 128 * 128 + 0x7F) (low.0 % 128)) (vex_vector 1 low.0) (vvvv_of low.0) bytes low.1
 
 -- after 62, EVEX
 unfoldable pub evex_at : Prefixes → List ℕ → ℕ → Parsed Opcode
@@ -130,7 +156,7 @@ evex_at prefixes bytes at = do
   high ← u8_at bytes at
   low ← u8_at bytes high.1
   mask ← u8_at bytes low.1
-  vector_opcode_at (vector_prefixes prefixes high.0 low.0) (high.0 % 8) (vvvv_of low.0) bytes mask.1
+  vector_opcode_at (vector_prefixes prefixes high.0 low.0) (evex_vector high.0 low.0 mask.0) (vvvv_of low.0) bytes mask.1
 
 -- 8F begins XOP where a map from 8 on follows; else it is POP
 abbrev pub is_map_of_xop : Option ℕ → Bool
@@ -143,9 +169,9 @@ is_xop bytes at = is_map_of_xop (slice_get bytes at)
 -- after 0F: 38 and 3A lead to maps of their own
 abbrev pub escaped_by : Prefixes → List ℕ → ℕ × ℕ → Parsed Opcode
 escaped_by prefixes bytes byte =
-    if byte.0 == 0x38 then (u8_at bytes byte.1 >>= opcode_in prefixes 0 three_byte_38)
-    else (if byte.0 == 0x3A then (u8_at bytes byte.1 >>= opcode_in prefixes 0 three_byte_3a)
-    else opcode_in prefixes 0 two_byte byte)
+    if byte.0 == 0x38 then (u8_at bytes byte.1 >>= opcode_in prefixes map.ThreeByte38 0 three_byte_38)
+    else (if byte.0 == 0x3A then (u8_at bytes byte.1 >>= opcode_in prefixes map.ThreeByte3a 0 three_byte_3a)
+    else opcode_in prefixes map.TwoByte 0 two_byte byte)
 
 unfoldable pub escaped_at : Prefixes → List ℕ → ℕ → Parsed Opcode
 escaped_at prefixes bytes at = do
@@ -159,7 +185,7 @@ opcode_by prefixes bytes byte =
     else (if byte.0 == 0xC5 then short_vector_at prefixes bytes byte.1
     else (if byte.0 == 0x62 then evex_at prefixes bytes byte.1
     else (if (byte.0 == 0xC4) || ((byte.0 == 0x8F) && is_xop bytes byte.1) then long_vector_at prefixes bytes byte.1
-    else opcode_in prefixes 0 one_byte byte)))
+    else opcode_in prefixes map.OneByte 0 one_byte byte)))
 
 unfoldable pub opcode_at : Prefixes → List ℕ → ℕ → Parsed Opcode
 opcode_at prefixes bytes at = do

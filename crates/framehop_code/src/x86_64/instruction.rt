@@ -3,7 +3,7 @@
 //!
 //! An instruction has at most 15 bytes. Those after them are not looked at, so that a longer one ends too early.
 ghost use Rattle.std.specs.Prelude.{◌≡◌, ◌+◌, ◌<◌, ◌≤◌, ◌%◌, ◌/◌, ◌==◌, not, take, drop, length, position, IfSome, IfNone, IfOk};
-ghost use Rattle.framehop_code.specs.X86_64.Instruction.{bit, is_legacy_prefix, rex_of, prefixes_of, prefixes_before, prefixes_at, opcode_of_row, vector_prefixes, vector_opcode_at, long_vector_at, short_vector_at, evex_at, is_xop, escaped_at, opcode_at, has_sib, displacement_size, immediate_size, signed_at, skipped, sib_at, memory_at, address_at, immediate_at, parts_at, instruction_at};
+ghost use Rattle.framehop_code.specs.X86_64.Instruction.{bit, is_legacy_prefix, rex_of, prefixes_of, prefixes_before, prefixes_at, opcode_of_row, vector_prefixes, vex_vector, evex_vector, evex_size, vector_opcode_at, long_vector_at, short_vector_at, evex_at, is_xop, escaped_at, opcode_at, has_sib, displacement_size, immediate_size, signed_at, skipped, sib_at, memory_at, address_at, immediate_at, parts_at, instruction_at};
 ghost use Rattle.framehop_code.specs.X86_64.Machine.{IsAsMachine};
 ghost use Rattle.std.specs.List.{list_any};
 ghost use Rattle.framehop_cfi.specs.Numbers.{u8_at};
@@ -45,13 +45,46 @@ pub struct Prefixes {
     pub address_size: bool,
     /// F2 or F3.
     pub repeated: bool,
+    /// F2.
+    pub repeated_unequal: bool,
+    /// 64 or 65: memory operands count from FS or GS.
+    pub segment: bool,
     pub rex: Rex,
+}
+
+/// The opcode map of an opcode.
+#[derive(Clone, Copy, Debug, PartialEq, Eq)]
+pub enum Map {
+    /// Opcodes of one byte.
+    OneByte,
+    /// Those after 0F.
+    TwoByte,
+    /// Those after 0F 38.
+    ThreeByte38,
+    /// Those after 0F 3A.
+    ThreeByte3a,
+    /// Those after a prefix VEX, EVEX or XOP.
+    Vector(Vector),
+}
+
+/// What a prefix VEX, EVEX or XOP says besides the bits of `Prefixes`.
+#[derive(Clone, Copy, Debug, PartialEq, Eq)]
+pub struct Vector {
+    /// The number of the opcode map.
+    pub map: u8,
+    /// The size of a vector, in bytes.
+    pub size: u8,
+    /// EVEX: a displacement of one byte counts units of more bytes.
+    pub is_evex: bool,
+    /// EVEX with a bit by which general registers from 16 on are named.
+    pub is_extended: bool,
 }
 
 /// An opcode with its prefixes.
 #[derive(Clone, Copy, Debug, PartialEq, Eq)]
 pub struct Opcode {
     pub prefixes: Prefixes,
+    pub map: Map,
     pub byte: u8,
     /// The register of VEX.vvvv.
     pub vvvv: u8,
@@ -96,7 +129,7 @@ pub fn read_instruction(code: &[u8], at: usize) -> Option<Effect>
 
 /// Returns the parts of the instruction at the front of bytes.
 #[tactic(auto, unfolding(crate::specs::X86_64::Instruction::parts_at))]
-fn read_parts(bytes: &[u8]) -> Result<Parts, ReadError>
+pub(crate) fn read_parts(bytes: &[u8]) -> Result<Parts, ReadError>
     ensures exact { result ≡ parts_at bytes.now }
     ensures inside { IfOk result (λ parts. (0 < parts.size) × (parts.size ≤ length bytes.now)) }
 {
@@ -157,6 +190,8 @@ fn prefixes_of(legacy: &[u8], first: u8) -> Prefixes
         operand_size: contains(legacy, 0x66),
         address_size: contains(legacy, 0x67),
         repeated: contains(legacy, 0xf2) || contains(legacy, 0xf3),
+        repeated_unequal: contains(legacy, 0xf2),
+        segment: contains(legacy, 0x64) || contains(legacy, 0x65),
         rex: rex_of(first),
     }
 }
@@ -201,7 +236,10 @@ fn read_opcode(prefixes: Prefixes, bytes: &[u8], at: usize) -> Result<(Opcode, u
     if byte == 0xc4 || (byte == 0x8f && is_xop(bytes, next)) {
         return read_long_vector(prefixes, bytes, next);
     }
-    Ok((opcode_of_row(prefixes, byte, 0, one_byte(byte))?, next))
+    Ok((
+        opcode_of_row(prefixes, Map::OneByte, byte, 0, one_byte(byte))?,
+        next,
+    ))
 }
 
 /// Returns the opcode after 0F, and the offset after it.
@@ -214,13 +252,22 @@ fn read_escaped(prefixes: Prefixes, bytes: &[u8], at: usize) -> Result<(Opcode, 
     match byte {
         0x38 => {
             let (byte, next) = read_byte(bytes, next)?;
-            Ok((opcode_of_row(prefixes, byte, 0, three_byte_38(byte))?, next))
+            Ok((
+                opcode_of_row(prefixes, Map::ThreeByte38, byte, 0, three_byte_38(byte))?,
+                next,
+            ))
         }
         0x3a => {
             let (byte, next) = read_byte(bytes, next)?;
-            Ok((opcode_of_row(prefixes, byte, 0, three_byte_3a(byte))?, next))
+            Ok((
+                opcode_of_row(prefixes, Map::ThreeByte3a, byte, 0, three_byte_3a(byte))?,
+                next,
+            ))
         }
-        _ => Ok((opcode_of_row(prefixes, byte, 0, two_byte(byte))?, next)),
+        _ => Ok((
+            opcode_of_row(prefixes, Map::TwoByte, byte, 0, two_byte(byte))?,
+            next,
+        )),
     }
 }
 
@@ -237,7 +284,7 @@ fn read_short_vector(
     let (low, next) = read_byte(bytes, at)?;
     let high = low / 128 * 128 + 0x7f;
     let prefixes = vector_prefixes(prefixes, high, low % 128);
-    read_vector_opcode(prefixes, 1, 15 - low / 8 % 16, bytes, next)
+    read_vector_opcode(prefixes, vex_vector(1, low), 15 - low / 8 % 16, bytes, next)
 }
 
 /// Returns the opcode after a prefix EVEX, whose second byte is at an offset.
@@ -248,9 +295,15 @@ fn read_evex(prefixes: Prefixes, bytes: &[u8], at: usize) -> Result<(Opcode, usi
 {
     let (high, next) = read_byte(bytes, at)?;
     let (low, next) = read_byte(bytes, next)?;
-    let (_mask, next) = read_byte(bytes, next)?;
+    let (mask, next) = read_byte(bytes, next)?;
     let prefixes = vector_prefixes(prefixes, high, low);
-    read_vector_opcode(prefixes, high % 8, 15 - low / 8 % 16, bytes, next)
+    read_vector_opcode(
+        prefixes,
+        evex_vector(high, low, mask),
+        15 - low / 8 % 16,
+        bytes,
+        next,
+    )
 }
 
 /// Returns whether 8F before an offset begins a prefix XOP: a map from 8 on follows. Else it is POP.
@@ -276,7 +329,13 @@ fn read_long_vector(
     let (high, next) = read_byte(bytes, at)?;
     let (low, next) = read_byte(bytes, next)?;
     let prefixes = vector_prefixes(prefixes, high, low);
-    read_vector_opcode(prefixes, high % 32, 15 - low / 8 % 16, bytes, next)
+    read_vector_opcode(
+        prefixes,
+        vex_vector(high % 32, low),
+        15 - low / 8 % 16,
+        bytes,
+        next,
+    )
 }
 
 /// Returns the prefixes that VEX, EVEX or XOP has, by its bytes with the inverted bits R, X and B, and with W and pp.
@@ -286,6 +345,7 @@ fn vector_prefixes(prefixes: Prefixes, high: u8, low: u8) -> Prefixes
     Prefixes {
         operand_size: low % 4 == 1,
         repeated: low % 4 >= 2,
+        repeated_unequal: low % 4 == 3,
         rex: Rex {
             present: true,
             w: bit(low, 7),
@@ -294,6 +354,41 @@ fn vector_prefixes(prefixes: Prefixes, high: u8, low: u8) -> Prefixes
             b: !bit(high, 5),
         },
         ..prefixes
+    }
+}
+
+/// Returns what a prefix VEX or XOP says, by its map and by its byte with L.
+fn vex_vector(map: u8, low: u8) -> Vector
+    ensures { result ≡ vex_vector map low }
+{
+    Vector {
+        map,
+        size: if bit(low, 2) { 32 } else { 16 },
+        is_evex: false,
+        is_extended: false,
+    }
+}
+
+/// Returns what a prefix EVEX says, by its three bytes.
+fn evex_vector(high: u8, low: u8, mask: u8) -> Vector
+    ensures { result ≡ evex_vector high low mask }
+{
+    Vector {
+        map: high % 8,
+        size: evex_size(mask / 32 % 4),
+        is_evex: true,
+        is_extended: bit(high, 3) || !bit(low, 2),
+    }
+}
+
+/// Returns the size of a vector, in bytes, by L'L of EVEX.
+fn evex_size(length: u8) -> u8
+    ensures { result ≡ evex_size length }
+{
+    match length {
+        0 => 16,
+        1 => 32,
+        _ => 64,
     }
 }
 
@@ -309,31 +404,36 @@ fn bit(byte: u8, place: u8) -> bool
 #[tactic(auto, unfolding(crate::specs::X86_64::Instruction::vector_opcode_at))]
 fn read_vector_opcode(
     prefixes: Prefixes,
-    map: u8,
+    fields: Vector,
     vvvv: u8,
     bytes: &[u8],
     at: usize,
 ) -> Result<(Opcode, usize), ReadError>
-    ensures exact { result ≡ vector_opcode_at prefixes map vvvv bytes.now at }
+    ensures exact { result ≡ vector_opcode_at prefixes fields vvvv bytes.now at }
     ensures inside { IfOk result (λ read. (at < read.1) × (read.1 ≤ length bytes.now)) }
 {
     let (byte, next) = read_byte(bytes, at)?;
-    let opcode = opcode_of_row(prefixes, byte, vvvv, vector(map, byte))?;
-    Ok((opcode, next))
+    let row = vector(fields.map, byte);
+    Ok((
+        opcode_of_row(prefixes, Map::Vector(fields), byte, vvvv, row)?,
+        next,
+    ))
 }
 
 /// Returns an opcode with the row of its map.
 fn opcode_of_row(
     prefixes: Prefixes,
+    map: Map,
     byte: u8,
     vvvv: u8,
     row: Option<Opcodes>,
 ) -> Result<Opcode, ReadError>
-    ensures { result ≡ opcode_of_row prefixes byte vvvv row }
+    ensures { result ≡ opcode_of_row prefixes map byte vvvv row }
 {
     match row {
         Some(Opcodes(_, _, operands, operation)) => Ok(Opcode {
             prefixes,
+            map,
             byte,
             vvvv,
             operands,
@@ -500,7 +600,7 @@ fn immediate_size(immediate: Immediate, prefixes: Prefixes, modrm: u8) -> usize
 }
 
 /// Returns the bytes from an offset on, as many as an instruction can have.
-fn longest_at(code: &[u8], at: usize) -> Option<&[u8]>
+pub(crate) fn longest_at(code: &[u8], at: usize) -> Option<&[u8]>
     ensures some { IfSome result (λ bytes. (at ≤ length code.now) × (bytes.now ≡ take 15 (drop at code.now))) }
     ensures inside { IfSome result (λ bytes. at + length bytes.now ≤ length code.now) }
     ensures none { IfNone result (length code.now < at) }
