@@ -1,16 +1,18 @@
 -- Where a backtrace is the library's walk.
-use Rattle.std.proofs.Common.{◌≡◌, ℕ, zero, suc, ◌∷◌, [], Bool, true, false, map, Ok, Err, refl, ap, sym, ◌∙◌, inl, inr, subst, ◌⊎◌, ◌==◌, if◌then◌else◌}
+use Rattle.std.proofs.Common.{◌≡◌, ℕ, zero, suc, ◌∷◌, [], Bool, true, false, map, Ok, Err, refl, ap, sym, ◌∙◌, inl, inr, subst, ◌⊎◌, ◌==◌, ◌&&◌, if◌then◌else◌}
 use Rattle.std.proofs.lemmas.Bool.{true≢false}
 use Rattle.framehop_core.specs.CodeAddress.{FrameLocation, at_instruction_pointer, at_return_address}
 use Rattle.framehop_core.specs.Outcome.{Outcome, answered, root, refused}
-use Rattle.framehop.specs.Walk.{Walk, at_root, onward, callers, walk_from, frame_before}
+use Rattle.framehop_core.specs.declared.error.Error.{Error}
+use Rattle.framehop.specs.Walk.{Walk, at_root, at_refusal, onward, callers, walk_from, frame_before}
 use Rattle.framehop_backtrace.specs.Code.{is_in_trampoline, is_in_code}
 use Rattle.framehop_backtrace.specs.Rows.{Finding, by_row, uncovered, no_row}
 use Rattle.framehop_backtrace.specs.Library.{IsWithoutRow, AfterStep, IsPlain, IsPlainWalk, EndsAs, IsWalk, walk_of, IsLibraryWalk}
-use Rattle.framehop_backtrace.specs.Backtrace.{Stack, FrameView, Backtrace, next_of, by_finding, stepped_by, onward as further, callers_of, backtrace_of, root_of}
+use Rattle.framehop_backtrace.specs.Backtrace.{Stack, FrameView, Backtrace, next_of, by_finding, stepped_by, onward as further, callers_of, backtrace_of, root_of, is_by_frame_pointer, has_no_frame_pointer}
 use Rattle.framehop_backtrace.specs.declared.frame.FoundBy.{FoundBy}
-use Rattle.framehop_backtrace.specs.declared.frame.FoundBy.TheVariants.{First, Cfi, Signal, FramePointer, Guess}
+use Rattle.framehop_backtrace.specs.declared.frame.FoundBy.TheVariants.{First, Cfi, Signal, Run, FramePointer, Guess}
 use Rattle.framehop_backtrace.specs.declared.frame.BacktraceEnd.{BacktraceEnd}
+use Rattle.framehop_backtrace.specs.declared.frame.BacktraceEnd.TheVariants.{FramePointerZero, Refused}
 
 -- where a step has answered: 0 ends both, and else both go on
 answered-by : {Regs : Type 0} (b c : Bool) (ended on : Walk Regs) (rest : FrameView Regs → Backtrace Regs) (next : FrameView Regs)
@@ -24,9 +26,14 @@ answered-by false false ended on rest next refusal outside ends goes = absurd (t
 root-is : (found : FoundBy) → EndsAs at_root (root_of found)
 root-is FramePointer = inr refl
 root-is Guess = inr refl
+root-is Run = inr refl
 root-is First = inl refl
 root-is Cfi = inl refl
 root-is Signal = inl refl
+
+error-is : (zero_is : Bool) (error : Error) → EndsAs (at_refusal error) (if zero_is then FramePointerZero else Refused error)
+error-is true error = inr refl
+error-is false error = inl refl
 
 module _ {Regs : Type 0} (stack : Stack Regs)
     (can : (address : ℕ) (regs : Regs) → stack.machine.can_step (stack.machine.columns address regs) ≡ true) where
@@ -34,12 +41,12 @@ module _ {Regs : Type 0} (stack : Stack Regs)
   abbrev steps : FrameLocation → Regs → Outcome Regs
   steps location regs = stack.step location regs stack.memory
 
-  next-by : (frame : FrameView Regs) (finding : Finding) → IsWithoutRow stack.code frame.location finding
+  next-by : (frame : FrameView Regs) (finding : Finding) → IsWithoutRow stack frame.location finding
       → stack.machine.can_step frame.columns ≡ true → (found : FoundBy)
       × (by_finding stack frame finding ≡ stepped_by stack.machine stack.code found frame (steps frame.location frame.regs))
   next-by frame no_row without known =
       (if stack.is_by_info frame.location frame.regs stack.memory then Cfi else FramePointer, rw without (rw known refl))
-  next-by frame uncovered first known = (FramePointer, rw first (rw known refl))
+  next-by frame uncovered without known = (FramePointer, rw (without.1 frame.columns) (rw without.0 (rw known refl)))
   next-by frame (by_row section row) without known = absurd without
 
   next-of : (frame : FrameView Regs) → is_in_trampoline stack.code frame.location ≡ false
@@ -90,9 +97,10 @@ module _ {Regs : Type 0} (stack : Stack Regs)
       (further (callers_of stack n) (stepped_by stack.machine stack.code found frame outcome))
   after-is n go found frame (answered address new) plain =
       answered-by (address == 0) (is_in_code stack.code address) _ _ (callers_of stack n) _ _ _
-      (record { frames = refl; end = refl }) (λ some. arrived-in n go found frame address new plain some)
+      (record { frames = refl; end = inl refl }) (λ some. arrived-in n go found frame address new plain some)
   after-is n go found frame root plain = record { frames = refl; end = root-is found }
-  after-is n go found frame (refused error) plain = record { frames = refl; end = refl }
+  after-is n go found frame (refused error) plain =
+      record { frames = refl; end = error-is (is_by_frame_pointer found && has_no_frame_pointer stack.machine frame.columns) error }
 
   callers-are : (n : ℕ) (frame : FrameView Regs) → IsPlain stack n frame.location frame.regs
       → stack.machine.can_step frame.columns ≡ true

@@ -1,6 +1,6 @@
 -- A backtrace: the frames of a stack, each with its registers and how it was found.
-use Rattle.std.specs.Prelude.{ℕ, zero, suc, Bool, false, ◌==◌, ◌&&◌, if◌then◌else◌, List, [], ◌∷◌, map, Option, Some, None, option_and_then, Result, Ok, Err}
-use Rattle.framehop_core.specs.CodeAddress.{FrameLocation, at_instruction_pointer, at_return_address, is_first_frame, location_of}
+use Rattle.std.specs.Prelude.{ℕ, zero, suc, Bool, true, false, ◌==◌, ◌&&◌, if◌then◌else◌, List, [], ◌∷◌, map, Option, Some, None, option_and_then, unwrap_or, Result, Ok, Err}
+use Rattle.framehop_core.specs.CodeAddress.{FrameLocation, address_of, at_instruction_pointer, at_return_address, is_first_frame, location_of}
 use Rattle.framehop_core.specs.Memory.{Memory}
 use Rattle.framehop_core.specs.Outcome.{Outcome, answer_of, registers_after}
 use Rattle.framehop_core.specs.declared.error.Error.{Error}
@@ -11,15 +11,19 @@ use Rattle.framehop_columns.specs.Convention.{stack_pointer_of}
 use Rattle.framehop_columns.specs.Rules.{Source}
 use Rattle.framehop_columns.specs.declared.caller.RowRefusal.{RowRefusal}
 use Rattle.framehop_columns.specs.declared.caller.RowRefusal.TheVariants as refusal
-use Rattle.framehop_backtrace.specs.Code.{Code, is_in_trampoline, is_in_code, is_outside_code}
+use Rattle.framehop_runs.specs.Step.{Source as RunSource}
+use Rattle.framehop_runs.specs.declared.run.RunCaller.{RunCaller}
+use Rattle.framehop_backtrace.specs.Code.{Code, code_at, is_in_trampoline, is_in_code, is_outside_code}
 use Rattle.framehop_backtrace.specs.Columns.{column, columns_by, returned_to}
+use Rattle.framehop_backtrace.specs.Guess.{evidence_at, evidence_of, is_better, is_taken}
 use Rattle.framehop_backtrace.specs.Machine.{Machine}
 use Rattle.framehop_backtrace.specs.Rows.{Finding, by_row, uncovered, no_row}
 use Rattle.framehop_backtrace.specs.declared.frame.BacktraceEnd.{BacktraceEnd}
 use Rattle.framehop_backtrace.specs.declared.frame.BacktraceEnd.TheVariants.{Root, FramePointerZero, Limit, SignalFrameUnread, CfaUnknown, ReturnAddressUnknown, DidNotAdvance, RegistersUnknown, Refused, NoCaller, NotCode}
 use Rattle.framehop_backtrace.specs.declared.frame.FoundBy.{FoundBy}
-use Rattle.framehop_backtrace.specs.declared.frame.FoundBy.TheVariants.{First, Cfi, Signal, FramePointer, Guess}
+use Rattle.framehop_backtrace.specs.declared.frame.FoundBy.TheVariants.{First, Cfi, Signal, Run, FramePointer, Guess}
 use Rattle.framehop_backtrace.specs.declared.frame.Frame.{Frame}
+use Rattle.framehop_backtrace.specs.declared.guess.Evidence.{Evidence}
 use Rattle.framehop_backtrace.specs.declared.walk.StackTrace.{StackTrace}
 
 -- ---- frames
@@ -108,44 +112,52 @@ by_row_of machine code memory frame section row =
 abbrev pub root_of : FoundBy → BacktraceEnd
 root_of FramePointer = FramePointerZero
 root_of Guess = FramePointerZero
+root_of Run = FramePointerZero
 root_of First = Root
 root_of Cfi = Root
 root_of Signal = Root
 
--- by what a step of the library returns, and the registers after it
-abbrev pub stepped : {Regs : Type 0} → Machine Regs → Code → FoundBy → Result (Option ℕ) Error → Regs → Next Regs
-stepped machine code found (Ok (Some address)) regs = arrived code address (record {
+-- a frame pointer of 0 leads to no frame
+abbrev pub has_no_frame_pointer : {Regs : Type 0} → Machine Regs → List (Option ℕ) → Bool
+has_no_frame_pointer machine columns = unwrap_or (column columns machine.frame_pointer) 1 == 0
+
+abbrev pub is_by_frame_pointer : FoundBy → Bool
+is_by_frame_pointer FramePointer = true
+is_by_frame_pointer Guess = false
+is_by_frame_pointer Run = false
+is_by_frame_pointer First = false
+is_by_frame_pointer Cfi = false
+is_by_frame_pointer Signal = false
+
+-- the end of a stack at a step that is refused, from these columns
+abbrev pub end_of_error : {Regs : Type 0} → Machine Regs → FoundBy → List (Option ℕ) → Error → BacktraceEnd
+end_of_error machine found columns error =
+    if is_by_frame_pointer found && has_no_frame_pointer machine columns then FramePointerZero else Refused error
+
+-- by what a step of the library from these columns returns, and the registers after it
+abbrev pub stepped : {Regs : Type 0} → Machine Regs → Code → FoundBy → List (Option ℕ) → Result (Option ℕ) Error → Regs
+    → Next Regs
+stepped machine code found columns (Ok (Some address)) regs = arrived code address (record {
   location = at_return_address address;
   columns = machine.columns address regs;
   regs = regs;
   found = found;
 })
-stepped machine code found (Ok None) regs = Err (root_of found)
-stepped machine code found (Err error) regs = Err (Refused error)
+stepped machine code found columns (Ok None) regs = Err (root_of found)
+stepped machine code found columns (Err error) regs = Err (end_of_error machine found columns error)
 
--- what a step returns lies in code, right after a call
-abbrev pub is_called : {Regs : Type 0} → Machine Regs → Code → Result (Option ℕ) Error → Bool
-is_called machine code (Ok (Some address)) = is_in_code code address && machine.is_after_call code.bytes address
-is_called machine code (Ok None) = false
-is_called machine code (Err error) = false
-
--- by the frame pointer, where a guess is wrong
-abbrev pub fallen_back : {Regs : Type 0} → Machine Regs → Code → Result (Option ℕ) Error → Regs → Next Regs
-fallen_back machine code (Ok None) regs = Err FramePointerZero
-fallen_back machine code (Ok (Some address)) regs =
-    if is_called machine code (Ok (Some address)) then stepped machine code FramePointer (Ok (Some address)) regs
-    else Err NoCaller
-fallen_back machine code (Err error) regs = Err NoCaller
+-- the end of a stack where neither a guess nor the frame pointer leads to a caller, by what the frame pointer's step
+-- returns
+abbrev pub end_without_caller : {Regs : Type 0} → Machine Regs → List (Option ℕ) → Result (Option ℕ) Error → BacktraceEnd
+end_without_caller machine columns (Ok None) = FramePointerZero
+end_without_caller machine columns (Ok (Some address)) = NoCaller
+end_without_caller machine columns (Err error) =
+    if has_no_frame_pointer machine columns then FramePointerZero else NoCaller
 
 -- the same by an outcome
 abbrev pub stepped_by : {Regs : Type 0} → Machine Regs → Code → FoundBy → FrameView Regs → Outcome Regs → Next Regs
 stepped_by machine code found frame outcome =
-    stepped machine code found (answer_of outcome) (registers_after frame.regs outcome)
-
--- by the fallback rule, over an outcome
-abbrev pub fallen_back_by : {Regs : Type 0} → Machine Regs → Code → FrameView Regs → Outcome Regs → Next Regs
-fallen_back_by machine code frame outcome =
-    fallen_back machine code (answer_of outcome) (registers_after frame.regs outcome)
+    stepped machine code found frame.columns (answer_of outcome) (registers_after frame.regs outcome)
 
 module _ {Regs : Type 0} (machine : Machine Regs) (code : Code) (frame : FrameView Regs) where
   -- by the library's step, which has this outcome, if the registers that it needs are known
@@ -153,16 +165,25 @@ module _ {Regs : Type 0} (machine : Machine Regs) (code : Code) (frame : FrameVi
   by_library found outcome =
       if machine.can_step frame.columns then stepped_by machine code found frame outcome else Err RegistersUnknown
 
-  -- by the rule of a function's start, which is a guess, or else by the frame pointer
-  abbrev pub guessed : Outcome Regs → Outcome Regs → Next Regs
-  guessed outcome fallback =
-      if is_called machine code (answer_of outcome) then stepped_by machine code Guess frame outcome
-      else fallen_back_by machine code frame fallback
+  -- what tells that an outcome's return address is that of a call to the frame's function
+  abbrev pub evidence_for : Result (Option ℕ) Error → Evidence
+  evidence_for answer = evidence_of machine code (code.start_of (address_of frame.location)) answer
+
+  -- By the likelier of two addresses: that by the rule of a function's start, which is a guess, and that of the frame
+  -- pointer, if one of them may be after a call.
+  abbrev pub guessed : Result (Option ℕ) Error → Regs → Outcome Regs → Next Regs
+  guessed answer regs fallback =
+      if is_better (evidence_for (answer_of fallback)) (evidence_for answer)
+      then stepped_by machine code FramePointer frame fallback
+      else (if is_taken (evidence_for answer) then stepped machine code Guess frame.columns answer regs
+      else Err (end_without_caller machine frame.columns (answer_of fallback)))
 
   -- the same, where the architecture can step from the columns that are known
   abbrev pub by_guess : Outcome Regs → Outcome Regs → Next Regs
   by_guess outcome fallback =
-      if machine.can_step frame.columns then guessed outcome fallback else Err RegistersUnknown
+      if machine.can_step frame.columns
+      then guessed (answer_of outcome) (registers_after frame.regs outcome) fallback
+      else Err RegistersUnknown
 
   -- where the module's call frames do not cover the frame: the rule of a function's start is for first frames
   abbrev pub by_start : Outcome Regs → Outcome Regs → Next Regs
@@ -176,29 +197,68 @@ module _ {Regs : Type 0} (machine : Machine Regs) (code : Code) (frame : FrameVi
       if is_outside_code code frame.location then by_guess start fallback
       else by_library (if by_info then Cfi else FramePointer) outcome
 
+-- what a run reads: the memory, the code, and which functions unwind data covers
+abbrev pub run_source : Memory → Code → (ℕ → Bool) → RunSource
+run_source memory code covers = record { memory = memory; code = code_at code; is_covered = covers }
+
+-- the frame of a caller that a run has found
+abbrev pub run_to : {Regs : Type 0} → Machine Regs → FrameView Regs → RunCaller → FrameView Regs
+run_to machine frame caller = record {
+  location = at_return_address caller.return_address;
+  columns = caller.registers;
+  regs = machine.merged frame.regs caller.registers;
+  found = Run;
+}
+
+-- the same, if its address is not 0 and may be after a call
+abbrev pub accepted : {Regs : Type 0} → Machine Regs → Code → FrameView Regs → RunCaller → Option (FrameView Regs)
+accepted machine code frame caller =
+    if caller.return_address == 0 then None
+    else (if is_taken (evidence_at machine code (code.start_of (address_of frame.location)) caller.return_address)
+    then Some (run_to machine frame caller) else None)
+
+-- the caller of a frame by running its code
+abbrev pub by_run : {Regs : Type 0} → Machine Regs → Code → FrameView Regs → RunSource → Option (FrameView Regs)
+by_run machine code frame source =
+    option_and_then (accepted machine code frame) (machine.run source (address_of frame.location) frame.columns)
+
+-- a caller, or else another
+abbrev pub caller_or : {Regs : Type 0} → Option (FrameView Regs) → Next Regs → Next Regs
+caller_or (Some caller) other = Ok caller
+caller_or None other = other
+
 -- a stack: its machine; what a step of the library does, and whether PE or compact unwind info unwinds a frame; the
--- rows of the modules; the memory and the code
+-- rows of the modules, and which functions their unwind data covers; the memory and the code
 pub record Stack (Regs : Type 0) : Type 0 where
   pub machine : Machine Regs
   pub step : FrameLocation → Regs → Memory → Outcome Regs
   pub is_by_info : FrameLocation → Regs → Memory → Bool
   pub rows : FrameLocation → Finding
+  pub covers : ℕ → Bool
   pub memory : Memory
   pub code : Code
 
 -- a stack of these parts
 abbrev pub stack_of : {Regs : Type 0} → Machine Regs → (FrameLocation → Regs → Memory → Outcome Regs)
-    → (FrameLocation → Regs → Memory → Bool) → (FrameLocation → Finding) → Memory → Code → Stack Regs
-stack_of machine step is_by_info rows memory code =
-    record { machine = machine; step = step; is_by_info = is_by_info; rows = rows; memory = memory; code = code }
+    → (FrameLocation → Regs → Memory → Bool) → (FrameLocation → Finding) → (ℕ → Bool) → Memory → Code → Stack Regs
+stack_of machine step is_by_info rows covers memory code = record {
+  machine = machine;
+  step = step;
+  is_by_info = is_by_info;
+  rows = rows;
+  covers = covers;
+  memory = memory;
+  code = code;
+}
 
 module _ {Regs : Type 0} (stack : Stack Regs) (frame : FrameView Regs) where
   -- by what the modules have for the frame
   abbrev pub by_finding : Finding → Next Regs
   by_finding (by_row section row) = by_row_of stack.machine stack.code stack.memory frame section row
   by_finding uncovered =
-      by_start stack.machine stack.code frame (stack.step frame.location frame.regs stack.memory)
-      (stack.machine.fallback (is_first_frame frame.location) frame.regs stack.memory)
+      caller_or (by_run stack.machine stack.code frame (run_source stack.memory stack.code stack.covers))
+      (by_start stack.machine stack.code frame (stack.step frame.location frame.regs stack.memory)
+      (stack.machine.fallback (is_first_frame frame.location) frame.regs stack.memory))
   by_finding no_row =
       without_row stack.machine stack.code frame (stack.is_by_info frame.location frame.regs stack.memory)
       (stack.step frame.location frame.regs stack.memory) (stack.machine.start frame.regs stack.memory)

@@ -1,5 +1,5 @@
 -- Call instructions, by their bytes.
-use Rattle.std.specs.Prelude.{ℕ, ◌-◌, ◌/◌, ◌%◌, Bool, false, ◌&&◌, ◌||◌, ◌==◌, List, length, slice_get, Option, Some, None, unwrap_or, if◌then◌else◌}
+use Rattle.std.specs.Prelude.{ℕ, ◌+◌, ◌-◌, ◌*◌, ◌^◌, ◌/◌, ◌%◌, nat_lt, Bool, false, ◌&&◌, ◌||◌, ◌==◌, List, length, slice_get, Option, Some, None, option_and_then, unwrap_or, if◌then◌else◌}
 
 -- a byte of code
 abbrev pub byte_of : List ℕ → ℕ → ℕ
@@ -17,11 +17,16 @@ modrm_length mode rm base =
 
 -- The bytes are a call of x86_64: E8 with an offset of 32 bits, or FF /2 with an operand. A prefix before them is not
 -- looked at. (The same manual, `CALL`.)
+abbrev pub is_direct_call : List ℕ → Bool
+is_direct_call code = (length code == 5) && (byte_of code 0 == 0xe8)
+
+abbrev pub is_indirect_call : List ℕ → Bool
+is_indirect_call code =
+    (byte_of code 0 == 0xff) && ((byte_of code 1 / 8) % 8 == 2)
+    && (length code == modrm_length (byte_of code 1 / 64) (byte_of code 1 % 8) (byte_of code 2 % 8))
+
 abbrev pub is_call_x86_64 : List ℕ → Bool
-is_call_x86_64 code =
-    ((length code == 5) && (byte_of code 0 == 0xe8))
-    || ((byte_of code 0 == 0xff) && ((byte_of code 1 / 8) % 8 == 2)
-    && (length code == modrm_length (byte_of code 1 / 64) (byte_of code 1 % 8) (byte_of code 2 % 8)))
+is_call_x86_64 code = is_direct_call code || is_indirect_call code
 
 -- The bytes are a call of aarch64: BL, whose six high bits are 100101, or BLR, which is D63F0000 but for the register's
 -- five bits from bit 5 on (Arm Architecture Reference Manual, C6.2).
@@ -48,3 +53,43 @@ is_after_call_x86_64 bytes address =
 
 abbrev pub is_after_call_aarch64 : (ℕ → ℕ → Option (List ℕ)) → ℕ → Bool
 is_after_call_aarch64 bytes address = is_after is_call_aarch64 bytes address 4
+
+-- ---- where direct calls lead
+
+-- a number of 32 bits, by bytes from the lowest on
+abbrev pub number_of : List ℕ → ℕ → ℕ
+number_of code at =
+    byte_of code at + 0x100 * byte_of code (at + 1) + 0x10000 * byte_of code (at + 2) + 0x1000000 * byte_of code (at + 3)
+
+-- a signed distance modulo 2^64: it is negative from a limit on
+abbrev pub distance_of : ℕ → ℕ → ℕ
+distance_of limit distance = if nat_lt distance limit then distance else distance + (2 ^ 64 - 2 * limit)
+
+-- an address lies right after an indirect call
+abbrev pub is_after_indirect_call : (ℕ → ℕ → Option (List ℕ)) → ℕ → Bool
+is_after_indirect_call bytes address =
+    is_after is_indirect_call bytes address 2 || is_after is_indirect_call bytes address 3
+    || is_after is_indirect_call bytes address 4 || is_after is_indirect_call bytes address 6
+    || is_after is_indirect_call bytes address 7
+
+-- E8 with an offset of 32 bits from the instruction after it
+abbrev pub target_x86_64 : ℕ → List ℕ → Option ℕ
+target_x86_64 address code =
+    if is_direct_call code then Some ((address + distance_of (2 ^ 31) (number_of code 1)) % 2 ^ 64) else None
+
+-- Where the call right before an address leads, if it is a direct one: bytes that are an indirect call, too, may be
+-- that.
+abbrev pub call_target_x86_64 : (ℕ → ℕ → Option (List ℕ)) → ℕ → Option ℕ
+call_target_x86_64 bytes address =
+    if is_after_indirect_call bytes address then None
+    else option_and_then (target_x86_64 address) (bytes (address - 5) 5)
+
+-- BL, whose offset from itself is 26 bits, in units of four bytes
+abbrev pub target_aarch64 : ℕ → List ℕ → Option ℕ
+target_aarch64 address code =
+    if byte_of code 3 / 4 == 0x25
+    then Some (((address - 4) + distance_of (2 ^ 27) (4 * (number_of code 0 % 2 ^ 26))) % 2 ^ 64)
+    else None
+
+abbrev pub call_target_aarch64 : (ℕ → ℕ → Option (List ℕ)) → ℕ → Option ℕ
+call_target_aarch64 bytes address = option_and_then (target_aarch64 address) (bytes (address - 4) 4)

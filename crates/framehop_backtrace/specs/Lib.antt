@@ -3,7 +3,10 @@ pub mod Backtrace
 pub mod Call
 pub mod Code
 pub mod Columns
+pub mod Covers
+pub mod Guess
 pub mod Info
+pub mod Kept
 pub mod Library
 pub mod Machine
 pub mod Rows

@@ -1,20 +1,26 @@
 -- Where a backtrace is the library's walk.
-use Rattle.std.specs.Prelude.{◌≡◌, ℕ, zero, suc, true, false, ⊤, ◌⊎◌, map}
-use Rattle.framehop_core.specs.CodeAddress.{FrameLocation, at_instruction_pointer, at_return_address, is_first_frame}
+use Rattle.std.specs.Prelude.{◌≡◌, ℕ, zero, suc, true, false, ⊤, ◌⊎◌, map, List, Option, None}
+use Rattle.framehop_core.specs.CodeAddress.{FrameLocation, address_of, at_instruction_pointer, at_return_address, is_first_frame}
 use Rattle.framehop_core.specs.Outcome.{Outcome, answered, root, refused}
 use Rattle.framehop.specs.Walk.{Walk, End, at_root, at_refusal, at_limit, walk_from}
-use Rattle.framehop_backtrace.specs.Code.{Code, is_in_trampoline, is_in_code, is_outside_code}
+use Rattle.framehop_backtrace.specs.Code.{is_in_trampoline, is_in_code, is_outside_code}
 use Rattle.framehop_backtrace.specs.Rows.{Finding, by_row, uncovered, no_row}
-use Rattle.framehop_backtrace.specs.Backtrace.{Stack, FrameView, Backtrace}
+use Rattle.framehop_backtrace.specs.Backtrace.{Stack, FrameView, Backtrace, run_source}
 use Rattle.framehop_backtrace.specs.declared.frame.BacktraceEnd.{BacktraceEnd}
 use Rattle.framehop_backtrace.specs.declared.frame.BacktraceEnd.TheVariants.{Root, FramePointerZero, Limit, Refused}
 
--- a frame has no row, and no guess is made: it is no first frame outside of code, or one that call frames of its module
--- do not cover
-abbrev pub IsWithoutRow : Code → FrameLocation → Finding → Type 0
-IsWithoutRow code location no_row = is_outside_code code location ≡ false
-IsWithoutRow code location uncovered = is_first_frame location ≡ false
-IsWithoutRow code location (by_row section row) = ⊥
+-- no run of a frame's code comes to a caller, whatever is known of its registers
+abbrev pub IsWithoutRun : {Regs : Type 0} → Stack Regs → FrameLocation → Type 0
+IsWithoutRun stack location =
+    (columns : List (Option ℕ))
+    → stack.machine.run (run_source stack.memory stack.code stack.covers) (address_of location) columns ≡ None
+
+-- a frame has no row, no run comes to its caller, and no guess is made: it is no first frame outside of code, or one
+-- that call frames of its module do not cover
+abbrev pub IsWithoutRow : {Regs : Type 0} → Stack Regs → FrameLocation → Finding → Type 0
+IsWithoutRow stack location no_row = is_outside_code stack.code location ≡ false
+IsWithoutRow stack location uncovered = (is_first_frame location ≡ false) × IsWithoutRun stack location
+IsWithoutRow stack location (by_row section row) = ⊥
 
 -- after a step: a return address is 0, or in code and this holds there
 abbrev pub AfterStep : {Regs : Type 0} → Stack Regs → (FrameLocation → Regs → Type 0) → Outcome Regs → Type 0
@@ -23,12 +29,12 @@ AfterStep stack Holds (answered address new) =
 AfterStep stack Holds root = ⊤
 AfterStep stack Holds (refused error) = ⊤
 
--- In the library's walk of so many steps from a frame on, none is in a trampoline or has a row, no guess is made, and
--- each return address is in code.
+-- In the library's walk of so many steps from a frame on, none is in a trampoline or has a row, no run and no guess is
+-- made, and each return address is in code.
 abbrev pub IsPlain : {Regs : Type 0} → Stack Regs → ℕ → FrameLocation → Regs → Type 0
 IsPlain stack zero location regs = ⊤
 IsPlain stack (suc n) location regs =
-    (is_in_trampoline stack.code location ≡ false) × IsWithoutRow stack.code location (stack.rows location)
+    (is_in_trampoline stack.code location ≡ false) × IsWithoutRow stack location (stack.rows location)
     × AfterStep stack (IsPlain stack n) (stack.step location regs stack.memory)
 
 -- the same of a walk of at most so many frames
@@ -36,10 +42,10 @@ abbrev pub IsPlainWalk : {Regs : Type 0} → Stack Regs → ℕ → FrameLocatio
 IsPlainWalk stack zero location regs = ⊤
 IsPlainWalk stack (suc n) location regs = IsPlain stack n location regs
 
--- a backtrace ends as a walk does
+-- a backtrace ends as a walk does: a step by a frame pointer of 0 has no caller, by whatever the library refuses it
 abbrev pub EndsAs : End → BacktraceEnd → Type 0
 EndsAs at_root end = (end ≡ Root) ⊎ (end ≡ FramePointerZero)
-EndsAs (at_refusal error) end = end ≡ Refused error
+EndsAs (at_refusal error) end = (end ≡ Refused error) ⊎ (end ≡ FramePointerZero)
 EndsAs at_limit end = end ≡ Limit
 
 -- the backtrace has the frames of the walk, and ends as that does

@@ -18,16 +18,20 @@ use Rattle.framehop_cfi.specs.X86_64.{RBX, RBP, RSP, R12, R15, RA}
 use Rattle.framehop_columns.specs.RegisterFile.{unknown}
 use Rattle.framehop_columns.specs.declared.convention.Convention.{Convention}
 use Rattle.framehop_columns.specs.declared.convention.Convention.TheVariants.{X86_64, Aarch64}
+use Rattle.framehop_runs.specs.Run.{caller_by_runs}
+use Rattle.framehop_runs.specs.Step.{Source as RunSource}
+use Rattle.framehop_runs.specs.declared.run.RunCaller.{RunCaller}
 use Rattle.framehop_signal.specs.Frame.{interrupted_x86_64}
-use Rattle.framehop_backtrace.specs.Call.{is_after_call_x86_64, is_after_call_aarch64}
+use Rattle.framehop_backtrace.specs.Call.{is_after_call_x86_64, is_after_call_aarch64, call_target_x86_64, call_target_aarch64}
 use Rattle.framehop_backtrace.specs.Columns.{columns_by, column, with_column}
 
 -- `strip`: a pointer to code without its pointer authentication bits, by the mask of the registers. `columns`: what the
 -- library's step to an address leaves exactly. `merged`: the library's registers with the columns that are known.
 -- `can_step`: whether the columns that each step of the library may need are known. `frame_size`, `saved`: how much of
 -- a signal frame is read, and the interrupted instruction pointer and columns that it has. `is_after_call`: an address
--- lies right after a call, by the bytes of code. `fallback`: the step by the frame pointer, of a first frame (`true`)
--- or another. `start`: that of a first frame at the first instruction of a function.
+-- lies right after a call, by the bytes of code. `call_target`: where that call leads, if it is a direct one.
+-- `frame_pointer`: its column. `fallback`: the step by the frame pointer, of a first frame (`true`) or another. `start`: that of a first frame at the
+-- first instruction of a function. `run`: the caller of a frame by running its code from an address on over its columns.
 pub record Machine (Regs : Type 0) : Type 0 where
   pub convention : Convention
   pub strip : Regs → ℕ → ℕ
@@ -37,8 +41,11 @@ pub record Machine (Regs : Type 0) : Type 0 where
   pub frame_size : ℕ
   pub saved : List ℕ → Option (ℕ × List (Option ℕ))
   pub is_after_call : (ℕ → ℕ → Option (List ℕ)) → ℕ → Bool
+  pub call_target : (ℕ → ℕ → Option (List ℕ)) → ℕ → Option ℕ
+  pub frame_pointer : ℕ
   pub fallback : Bool → Regs → Memory → Outcome Regs
   pub start : Regs → Memory → Outcome Regs
+  pub run : RunSource → ℕ → List (Option ℕ) → Option RunCaller
 
 -- ---- x86_64
 
@@ -111,8 +118,11 @@ machine_x86_64 = record {
   frame_size = 176;
   saved = saved_x86_64;
   is_after_call = is_after_call_x86_64;
+  call_target = call_target_x86_64;
+  frame_pointer = RBP;
   fallback = outcome_x86_64 UseFramePointerX86_64;
   start = outcome_x86_64 JustReturn true;
+  run = caller_by_runs;
 }
 
 -- ---- aarch64
@@ -153,6 +163,9 @@ machine_aarch64 = record {
   frame_size = 576;
   saved = saved_aarch64;
   is_after_call = is_after_call_aarch64;
+  call_target = call_target_aarch64;
+  frame_pointer = X29;
   fallback = outcome_aarch64 UseFramePointerAarch64;
   start = outcome_aarch64 NoOp true;
+  run = λ source address columns. None;
 }

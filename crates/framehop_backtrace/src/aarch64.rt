@@ -3,7 +3,8 @@ ghost use Rattle.std.specs.Prelude.{◌≡◌, ◌≤◌, ◌+◌, ◌*◌, Some
 ghost use Rattle.framehop_bytes.specs.Bytes.{le8};
 ghost use Rattle.framehop_backtrace.specs.Columns.{columns_by};
 
-use crate::call::is_after_call_aarch64;
+use crate::call::{call_target_aarch64, is_after_call_aarch64};
+use crate::covers::is_covered;
 use crate::info::is_by_info;
 use crate::machine::{BacktraceUnwinder, known_or};
 use crate::memory::CodeMemory;
@@ -22,6 +23,8 @@ use framehop_columns::memory::WordMemory;
 use framehop_columns::register_file::RegisterFile;
 use framehop_core::aarch64::{UnwindRegsAarch64, UnwindRuleAarch64};
 use framehop_core::{Error, FrameAddress};
+use framehop_runs::run::RunCaller;
+use framehop_runs::step::RunMemory;
 use framehop_signal::aarch64::FRAME_SIZE;
 use std::alloc::AllocError;
 
@@ -82,6 +85,14 @@ impl<D: SectionBytes + Drop, P: AllocationPolicy> BacktraceUnwinder for Unwinder
         is_after_call_aarch64(memory, address)
     }
 
+    fn call_target<M: CodeMemory>(memory: &M, address: u64) -> Option<u64> {
+        call_target_aarch64(memory, address)
+    }
+
+    fn frame_pointer() -> Register {
+        aarch64::X29
+    }
+
     fn follow_frame_pointer<M: WordMemory>(
         memory: &M,
         is_first_frame: bool,
@@ -97,6 +108,14 @@ impl<D: SectionBytes + Drop, P: AllocationPolicy> BacktraceUnwinder for Unwinder
         step_at_start::<UnwindRuleAarch64, M>(memory, regs)
     }
 
+    fn caller_by_runs<M: RunMemory>(
+        _memory: &M,
+        _address: u64,
+        _columns: &RegisterFile,
+    ) -> Option<RunCaller> {
+        None
+    }
+
     fn is_by_info<M: WordMemory>(
         &self,
         address: FrameAddress,
@@ -104,6 +123,10 @@ impl<D: SectionBytes + Drop, P: AllocationPolicy> BacktraceUnwinder for Unwinder
         memory: &M,
     ) -> bool {
         is_by_info(self.inner(), address, regs, memory)
+    }
+
+    fn covers(&self, address: u64) -> bool {
+        is_covered(self.inner(), address)
     }
 }
 

@@ -19,11 +19,15 @@ pub enum FoundBy {
     /// A signal interrupted it: its registers are in the signal frame.
     Signal,
 
+    /// By running its callee's code to the return, where call frames of the callee's module do not cover it. It is right
+    /// after a call, or after code that nobody has.
+    Run,
+
     /// By the frame pointer of its callee, of which no unwind data is known.
     FramePointer,
 
     /// By the rule of a function's start, since the callee's module has call frames that do not cover it. It is right
-    /// after a call.
+    /// after a call, or after code that nobody has.
     Guess,
 }
 
@@ -58,7 +62,7 @@ pub enum BacktraceEnd {
     /// The step of the last frame was refused.
     Refused(Error),
 
-    /// The last frame has no row, and no caller right after a call.
+    /// The last frame has no row, and no caller that may be right after a call.
     NoCaller,
 
     /// The return address (AVMA) of the last frame lies in no executable memory.
@@ -110,7 +114,7 @@ pub(crate) fn root_of(found: FoundBy) -> BacktraceEnd
     ensures { result ≡ root_of found }
 {
     match found {
-        FoundBy::FramePointer | FoundBy::Guess => BacktraceEnd::FramePointerZero,
+        FoundBy::FramePointer | FoundBy::Guess | FoundBy::Run => BacktraceEnd::FramePointerZero,
         FoundBy::First | FoundBy::Cfi | FoundBy::Signal => BacktraceEnd::Root,
     }
 }

@@ -10,27 +10,34 @@
 //!   and those of the library's step. So a walk without rows is the library's. After such a step
 //!   only pc, sp and fp are known, and lr of aarch64.
 //! - A guess is only made at a first frame, since the rule of a function's start follows the frame
-//!   pointer at others; where its return address is not right after a call, the frame pointer must
-//!   lead to one that is.
+//!   pointer at others. Its return address and that of the frame pointer are compared by the calls
+//!   before them. Code that nobody has, as of a JIT compiler, may have a call.
 //! - A return address is in code if the byte before it is, or it itself, as that of a trampoline at
 //!   the beginning of a mapping.
 //! - Rows come from a trait (`Rows`), so that call frames that the library leaves out can be a
 //!   second source (`OrElse`).
+//! - A walk keeps what it found for its latest 64 addresses, and forgets it at its end, since modules
+//!   change between walks.
 #![tactic(auto)]
 
 pub mod aarch64;
 pub mod call;
+mod covers;
 pub mod frame;
+mod guess;
 pub mod info;
+pub mod kept;
 pub mod machine;
 pub mod memory;
 pub mod next;
 pub mod rows;
+mod run;
 pub mod step;
 pub mod walk;
 pub mod x86_64;
 
 pub use frame::{BacktraceEnd, FoundBy, Frame};
+pub use kept::RowRoom;
 pub use machine::BacktraceUnwinder;
 pub use memory::CodeMemory;
 pub use next::next_frame;

@@ -4,6 +4,7 @@ ghost use Rattle.framehop_core.specs.CodeAddress.{FrameLocation, location_of};
 ghost use Rattle.framehop_core.specs.Memory.{Memory};
 ghost use Rattle.framehop_core.specs.Outcome.{HasDone};
 ghost use Rattle.framehop_backtrace.specs.Columns.{column};
+ghost use Rattle.framehop_backtrace.specs.Covers.{is_covered};
 ghost use Rattle.framehop_backtrace.specs.Machine.{Machine};
 
 use crate::memory::CodeMemory;
@@ -13,6 +14,8 @@ use framehop_columns::convention::Convention;
 use framehop_columns::memory::WordMemory;
 use framehop_columns::register_file::RegisterFile;
 use framehop_core::{Error, FrameAddress};
+use framehop_runs::run::RunCaller;
+use framehop_runs::step::RunMemory;
 
 /// An unwinder of an architecture whose calls, registers and signal frames are known.
 pub trait BacktraceUnwinder: Unwinder {
@@ -58,6 +61,14 @@ pub trait BacktraceUnwinder: Unwinder {
     fn is_after_call<M: CodeMemory>(memory: &M, address: u64) -> bool
         ensures { result ≡ machine.is_after_call (M.code memory.now).bytes address };
 
+    /// Returns where the call right before an address (AVMA) leads, if it is a direct one.
+    fn call_target<M: CodeMemory>(memory: &M, address: u64) -> Option<u64>
+        ensures { result ≡ machine.call_target (M.code memory.now).bytes address };
+
+    /// Returns the column of the frame pointer.
+    fn frame_pointer() -> Register
+        ensures { result ≡ record { 0 = machine.frame_pointer } };
+
     /// Unwinds a frame by the frame pointer, and returns as [`Unwinder::unwind_frame`] does.
     fn follow_frame_pointer<M: WordMemory>(
         memory: &M,
@@ -73,6 +84,16 @@ pub trait BacktraceUnwinder: Unwinder {
     ) -> Result<Option<u64>, Error>
         ensures { HasDone (machine.start regs.old (M.memory memory.now)) result regs.old regs.new };
 
+    /// Returns the caller of a frame by running its code from an address (AVMA) on, over its registers. Only x86_64 has
+    /// one.
+    fn caller_by_runs<M: RunMemory>(
+        memory: &M,
+        address: u64,
+        columns: &RegisterFile,
+    ) -> Option<RunCaller>
+        ensures { result ≡ machine.run (record { memory = M.WordMemory.memory memory.now; code = M.code memory.now; is_covered = M.covers memory.now })
+            address columns.now };
+
     /// Returns whether PE or compact unwind info unwinds a frame.
     fn is_by_info<M: WordMemory>(
         &self,
@@ -81,6 +102,10 @@ pub trait BacktraceUnwinder: Unwinder {
         memory: &M,
     ) -> bool
         ensures { result ≡ is_by_info self.now (location_of address) regs (M.memory memory.now) };
+
+    /// Returns whether unwind data of the modules covers the function at an address (AVMA).
+    fn covers(&self, address: u64) -> bool
+        ensures { result ≡ is_covered (Self.unwinder_view self.now).modules address };
 }
 
 /// Returns the value of a register, or another one where it isn't known.

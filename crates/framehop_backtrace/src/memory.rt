@@ -1,7 +1,7 @@
 //! The memory of a process with its code.
 ghost use Rattle.std.specs.Prelude.{◌≡◌, option_map};
 ghost use Rattle.framehop_core.specs.CodeAddress.{location_of};
-ghost use Rattle.framehop_backtrace.specs.Code.{Code, is_in_trampoline, is_in_code, is_outside_code};
+ghost use Rattle.framehop_backtrace.specs.Code.{Code, is_in_trampoline, is_in_code, is_outside_code, is_unread};
 
 use framehop_columns::memory::WordMemory;
 use framehop_core::FrameAddress;
@@ -21,6 +21,10 @@ pub trait CodeMemory: WordMemory {
     /// Returns whether a trampoline, to which the handlers of signals return, begins at an address (AVMA).
     fn is_trampoline(&self, address: u64) -> bool
         ensures { result ≡ (code self.now).is_trampoline address };
+
+    /// Returns where the function begins (AVMA) that has an address, if a symbol or an FDE tells that.
+    fn function_start(&self, address: u64) -> Option<u64>
+        ensures { result ≡ (code self.now).start_of address };
 }
 
 /// Returns whether a frame is in a trampoline: a handler returns to the first of its two instructions, and an instruction
@@ -56,4 +60,12 @@ pub(crate) fn is_in_code<M: CodeMemory>(memory: &M, address: u64) -> bool
     ensures { result ≡ is_in_code (M.code memory.now) address }
 {
     memory.is_executable(address.saturating_sub(1)) || memory.is_executable(address)
+}
+
+/// Returns whether nobody has the code right before an address (AVMA): it is executable, and its bytes are not known.
+pub(crate) fn is_unread<M: CodeMemory>(memory: &M, address: u64) -> bool
+    ensures { result ≡ is_unread (M.code memory.now) address }
+{
+    let last = address.saturating_sub(1);
+    memory.is_executable(last) && memory.bytes_at(last, 1).is_none()
 }

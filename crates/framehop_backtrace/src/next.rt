@@ -1,18 +1,23 @@
 //! The caller of a frame.
-ghost use Rattle.std.specs.Prelude.{◌≡◌, ◌≢◌, ◌⊎◌, None, IfOk, IfErr, OnErr, Err, MatchBool, true};
-ghost use Rattle.framehop_core.specs.CodeAddress.{location_of, is_first_frame};
+ghost use Rattle.std.specs.Prelude.{◌≡◌, ◌≢◌, ◌⊎◌, None, IfOk, IfErr, OnErr, Err, MatchBool, true, length};
+ghost use Rattle.framehop_core.specs.CodeAddress.{FrameLocation, location_of, is_first_frame};
 ghost use Rattle.framehop_core.specs.Outcome.{HasDone};
 ghost use Rattle.framehop.specs.Modules.{UnwinderView};
 ghost use Rattle.framehop.specs.Soundness.{AreApart};
 ghost use Rattle.framehop_backtrace.specs.Code.{is_in_trampoline};
-ghost use Rattle.framehop_backtrace.specs.Rows.{IsRow};
+ghost use Rattle.framehop_backtrace.specs.Rows.{Finding, IsRow, finding_of};
+ghost use Rattle.framehop_backtrace.specs.Kept.{AreFound, kept_rows};
 ghost use Rattle.framehop_backtrace.specs.Columns.{returned_to};
-ghost use Rattle.framehop_backtrace.specs.Backtrace.{frame_view, moved_to, by_signal, by_row_of, returned_as, stepped, is_called, fallen_back_by, by_library, by_guess, by_start, without_row, stack_of, next_of};
+ghost use Rattle.framehop_backtrace.specs.Covers.{is_covered};
+ghost use Rattle.framehop_backtrace.specs.Backtrace.{frame_view, moved_to, by_signal, by_row_of, returned_as, stepped, is_by_frame_pointer, has_no_frame_pointer, end_of_error, end_without_caller, guessed, by_library, by_guess, by_start, without_row, run_source, by_run, caller_or, by_finding, stack_of, next_of};
 
 use crate::frame::{BacktraceEnd, FoundBy, Frame, end_of_refusal, root_of};
-use crate::machine::BacktraceUnwinder;
+use crate::guess::{Evidence, evidence_of};
+use crate::kept::{FoundRow, RowRoom};
+use crate::machine::{BacktraceUnwinder, known_or};
 use crate::memory::{CodeMemory, is_in_code, is_in_trampoline, is_outside_code};
 use crate::rows::{RowFinding, Rows};
+use crate::run::by_run;
 use crate::step::step;
 use framehop_cfi::context::UnwindContext;
 use framehop_cfi::row::UnwindTableRow;
@@ -26,11 +31,15 @@ use std::alloc::{AllocError, Global};
 ///
 /// 1. A frame in a trampoline, to which the handler of a signal returns, has the interrupted code as its caller.
 /// 2. A frame for which the modules have a row has its caller by that, over all registers that are known.
-/// 3. Else the library's step is taken, over the registers that it has. The rule of a function's start is a guess: its
-///    return address must lie right after a call, or else the frame pointer is followed to one that does. Where an
-///    instruction pointer lies in no code, a call has just led there: this guess is made, too.
+/// 3. A frame of x86_64 that call frames of its module do not cover has its caller by running its code, if that returns
+///    to an address right after a call, or after code that nobody has.
+/// 4. Else the library's step is taken, over the registers that it has. The rule of a function's start is a guess: its
+///    return address is compared with that of the frame pointer, and taken unless that is likelier. Either must lie right
+///    after a call, or after code that nobody has; a direct call of another function is less likely than other calls, and
+///    one of the frame's function likelier. Where an instruction pointer lies in no code, a call has just led there: this
+///    guess is made, too.
 ///
-/// A return address of 2 and 3 must lie in executable memory. Only 3 looks at the cache.
+/// A return address of 2, 3 and 4 must lie in executable memory. Only 4 looks at the cache.
 ///
 /// # Errors
 ///
@@ -51,7 +60,7 @@ pub fn next_frame<U: BacktraceUnwinder, W: Rows, M: CodeMemory, S: UnwindContext
     ensures kept_by_rows { IsRow (W.rows rows.now S.limits (location_of frame.old.address)) → cache.new ≡ cache.old }
     ensures refused { IfErr result (λ _. (S.limits ≡ None) ⊎ U.may_run_out unwinder.now cache.old (location_of frame.old.address)) }
     ensures exact { U.is_sound (U.unwinder_view unwinder.now) cache.old → IfOk result (λ moved. moved_to moved frame.new
-        ≡ next_of (stack_of U.machine (U.step unwinder.now) (U.is_by_info unwinder.now) (W.rows rows.now S.limits)
+        ≡ next_of (stack_of U.machine (U.step unwinder.now) (U.is_by_info unwinder.now) (W.rows rows.now S.limits) (is_covered (U.unwinder_view unwinder.now).modules)
         (M.memory memory.now) (M.code memory.now)) (frame_view frame.old)) }
     ensures unmoved { OnErr result (frame.new ≡ frame.old) }
     ensures ended { IfOk result (λ moved. OnErr moved (frame.new ≡ frame.old)) }
@@ -59,12 +68,75 @@ pub fn next_frame<U: BacktraceUnwinder, W: Rows, M: CodeMemory, S: UnwindContext
     if is_in_trampoline(memory, frame.address) {
         return Ok(by_signal::<U, M>(memory, frame));
     }
-    match rows.row_at(unwind_context, frame.address)? {
-        RowFinding::Row(section) => {
-            let row = unwind_context.row();
-            Ok(by_row::<U, M, S>(alloc, section, row, memory, frame))
-        }
-        RowFinding::Uncovered => by_start(unwinder, cache, memory, frame),
+    let finding = rows.row_at(unwind_context, frame.address)?;
+    let row = unwind_context.row();
+    by_finding(alloc, unwinder, finding, row, cache, memory, frame)
+}
+
+/// Makes a frame its caller as [`next_frame`] does, in a walk that keeps what it finds.
+///
+/// # Errors
+///
+/// Those of [`next_frame`].
+pub(crate) fn next_kept_frame<'a, U, W, M, S>(
+    alloc: Global,
+    unwinder: &U,
+    rows: &'a W,
+    room: &mut RowRoom<S>,
+    found: &mut [Option<FoundRow<'a>>],
+    cache: &mut U::Cache,
+    memory: &M,
+    frame: &mut Frame<U::UnwindRegs>,
+) -> Result<Result<(), BacktraceEnd>, AllocError>
+where
+    U: BacktraceUnwinder,
+    W: Rows,
+    M: CodeMemory,
+    S: UnwindContextStorage,
+    requires { length found.old ≡ kept_rows }
+    ensures size { length found.new ≡ kept_rows }
+    ensures kept { AreFound (W.rows rows.entry.now S.limits) found.old room.old
+        → AreFound (W.rows rows.entry.now S.limits) found.new room.new }
+    ensures stays_sound { (other : UnwinderView) → AreApart (U.unwinder_view unwinder.now) other
+        → U.is_sound other cache.old → U.is_sound other cache.new }
+    ensures refused { IfErr result (λ _. (S.limits ≡ None) ⊎ U.may_run_out unwinder.now cache.old (location_of frame.old.address)) }
+    ensures exact { AreFound (W.rows rows.entry.now S.limits) found.old room.old
+        → U.is_sound (U.unwinder_view unwinder.now) cache.old → IfOk result (λ moved. moved_to moved frame.new
+        ≡ next_of (stack_of U.machine (U.step unwinder.now) (U.is_by_info unwinder.now) (W.rows rows.entry.now S.limits) (is_covered (U.unwinder_view unwinder.now).modules)
+        (M.memory memory.now) (M.code memory.now)) (frame_view frame.old)) }
+{
+    if is_in_trampoline(memory, frame.address) {
+        return Ok(by_signal::<U, M>(memory, frame));
+    }
+    let (place, finding) = room.row_at(rows, found, frame.address)?;
+    let row = room.row(place);
+    by_finding(alloc, unwinder, finding, row, cache, memory, frame)
+}
+
+/// Makes a frame its caller by what was found for it, with the row that it has if it is one.
+fn by_finding<U: BacktraceUnwinder, M: CodeMemory, S: UnwindContextStorage>(
+    alloc: Global,
+    unwinder: &U,
+    finding: RowFinding<'_>,
+    row: &UnwindTableRow<S>,
+    cache: &mut U::Cache,
+    memory: &M,
+    frame: &mut Frame<U::UnwindRegs>,
+) -> Result<Result<(), BacktraceEnd>, AllocError>
+    ensures stays_sound { (other : UnwinderView) → AreApart (U.unwinder_view unwinder.now) other
+        → U.is_sound other cache.old → U.is_sound other cache.new }
+    ensures kept_by_rows { IsRow (finding_of finding.entry row.now) → cache.new ≡ cache.old }
+    ensures refused { IfErr result (λ _. U.may_run_out unwinder.now cache.old (location_of frame.old.address)) }
+    ensures exact { (rows : FrameLocation → Finding) → U.is_sound (U.unwinder_view unwinder.now) cache.old
+        → IfOk result (λ moved. moved_to moved frame.new
+        ≡ by_finding (stack_of U.machine (U.step unwinder.now) (U.is_by_info unwinder.now) rows (is_covered (U.unwinder_view unwinder.now).modules)
+        (M.memory memory.now) (M.code memory.now)) (frame_view frame.old) (finding_of finding.entry row.now)) }
+    ensures unmoved { OnErr result (frame.new ≡ frame.old) }
+    ensures ended { IfOk result (λ moved. OnErr moved (frame.new ≡ frame.old)) }
+{
+    match finding {
+        RowFinding::Row(section) => Ok(by_row::<U, M, S>(alloc, section, row, memory, frame)),
+        RowFinding::Uncovered => by_run_or_start(unwinder, cache, memory, frame),
         RowFinding::NoRow => without_row(unwinder, cache, memory, frame),
     }
 }
@@ -155,7 +227,35 @@ fn return_to<U: BacktraceUnwinder>(regs: &U::UnwindRegs, address: u64, columns: 
     columns.set(convention.program_counter(), Some(address));
 }
 
-/// Makes a frame its caller, where call frames of its module do not cover it.
+/// Makes a frame its caller, where call frames of its module do not cover it: by running its code, or else by a step.
+fn by_run_or_start<U: BacktraceUnwinder, M: CodeMemory>(
+    unwinder: &U,
+    cache: &mut U::Cache,
+    memory: &M,
+    frame: &mut Frame<U::UnwindRegs>,
+) -> Result<Result<(), BacktraceEnd>, AllocError>
+    ensures stays_sound { (other : UnwinderView) → AreApart (U.unwinder_view unwinder.now) other
+        → U.is_sound other cache.old → U.is_sound other cache.new }
+    ensures refused { IfErr result (λ _. U.may_run_out unwinder.now cache.old (location_of frame.old.address)) }
+    ensures exact { U.is_sound (U.unwinder_view unwinder.now) cache.old → IfOk result (λ moved. moved_to moved frame.new
+        ≡ caller_or (by_run U.machine (M.code memory.now) (frame_view frame.old)
+        (run_source (M.memory memory.now) (M.code memory.now) (is_covered (U.unwinder_view unwinder.now).modules)))
+        (by_start U.machine (M.code memory.now) (frame_view frame.old)
+        (U.step unwinder.now (location_of frame.old.address) frame.old.regs (M.memory memory.now))
+        (U.machine.fallback (is_first_frame (location_of frame.old.address)) frame.old.regs (M.memory memory.now)))) }
+    ensures unmoved { OnErr result (frame.new ≡ frame.old) }
+    ensures ended { IfOk result (λ moved. OnErr moved (frame.new ≡ frame.old)) }
+{
+    match by_run::<U, M>(unwinder, memory, frame) {
+        Some(caller) => {
+            *frame = caller;
+            Ok(Ok(()))
+        }
+        None => by_start(unwinder, cache, memory, frame),
+    }
+}
+
+/// Makes a frame its caller by a step, where call frames of its module do not cover it.
 fn by_start<U: BacktraceUnwinder, M: CodeMemory>(
     unwinder: &U,
     cache: &mut U::Cache,
@@ -209,8 +309,7 @@ fn without_row<U: BacktraceUnwinder, M: CodeMemory>(
     by_library(unwinder, cache, memory, frame, found)
 }
 
-/// Makes a frame outside of code its caller, as if it were at the first instruction of a function: if it lies right
-/// after a call, or else by the frame pointer.
+/// Makes a frame outside of code its caller, as if it were at the first instruction of a function.
 fn by_call<U: BacktraceUnwinder, M: CodeMemory>(
     memory: &M,
     frame: &mut Frame<U::UnwindRegs>,
@@ -225,10 +324,7 @@ fn by_call<U: BacktraceUnwinder, M: CodeMemory>(
     }
     let mut regs = frame.regs;
     let answer = U::step_at_start(memory, &mut regs);
-    if is_called::<U, M>(memory, answer) {
-        return stepped::<U, M>(memory, frame, FoundBy::Guess, answer, regs);
-    }
-    fallen_back::<U, M>(memory, frame)
+    guessed::<U, M>(memory, frame, answer, regs)
 }
 
 /// Makes a frame its caller by the library's step.
@@ -259,7 +355,7 @@ fn by_library<U: BacktraceUnwinder, M: CodeMemory>(
     Ok(stepped::<U, M>(memory, frame, found, answer, regs))
 }
 
-/// Makes a frame its caller by the rule of a function's start, if it lies right after a call, or else by the frame pointer.
+/// Makes a frame its caller by the rule of a function's start, or by the frame pointer.
 fn by_guess<U: BacktraceUnwinder, M: CodeMemory>(
     unwinder: &U,
     cache: &mut U::Cache,
@@ -284,34 +380,53 @@ fn by_guess<U: BacktraceUnwinder, M: CodeMemory>(
     if is_out_of_memory(answer) {
         return Err(AllocError);
     }
-    if is_called::<U, M>(memory, answer) {
-        return Ok(stepped::<U, M>(memory, frame, FoundBy::Guess, answer, regs));
-    }
-    Ok(fallen_back::<U, M>(memory, frame))
+    Ok(guessed::<U, M>(memory, frame, answer, regs))
 }
 
-/// Makes a frame its caller by the frame pointer, where a guess is wrong.
-fn fallen_back<U: BacktraceUnwinder, M: CodeMemory>(
+/// Makes a frame its caller by the likelier of two addresses: that by the rule of a function's start, which is a guess, and
+/// that of the frame pointer.
+fn guessed<U: BacktraceUnwinder, M: CodeMemory>(
     memory: &M,
     frame: &mut Frame<U::UnwindRegs>,
+    answer: Result<Option<u64>, Error>,
+    regs: U::UnwindRegs,
 ) -> Result<(), BacktraceEnd>
-    ensures moved { moved_to result frame.new ≡ fallen_back_by U.machine (M.code memory.now) (frame_view frame.old)
+    ensures moved { moved_to result frame.new ≡ guessed U.machine (M.code memory.now) (frame_view frame.old) answer regs
         (U.machine.fallback (is_first_frame (location_of frame.old.address)) frame.old.regs (M.memory memory.now)) }
     ensures ended { OnErr result (frame.new ≡ frame.old) }
 {
     let is_first_frame = !frame.address.is_return_address();
-    let mut regs = frame.regs;
-    let answer = U::follow_frame_pointer(memory, is_first_frame, &mut regs);
-    match answer {
-        Ok(None) => Err(BacktraceEnd::FramePointerZero),
-        Ok(Some(_)) => {
-            if is_called::<U, M>(memory, answer) {
-                stepped::<U, M>(memory, frame, FoundBy::FramePointer, answer, regs)
+    let mut followed = frame.regs;
+    let fallback = U::follow_frame_pointer(memory, is_first_frame, &mut followed);
+    let start = memory.function_start(frame.address.address());
+    let evidence = evidence_of::<U, M>(memory, start, answer);
+    if evidence_of::<U, M>(memory, start, fallback).is_better(evidence) {
+        return stepped::<U, M>(memory, frame, FoundBy::FramePointer, fallback, followed);
+    }
+    if evidence.is_better(Evidence::NoCall) {
+        return stepped::<U, M>(memory, frame, FoundBy::Guess, answer, regs);
+    }
+    Err(end_without_caller::<U>(&frame.columns, fallback))
+}
+
+/// Returns the end of a stack where neither a guess nor the frame pointer leads to a caller, by what the frame pointer's step
+/// returns.
+fn end_without_caller<U: BacktraceUnwinder>(
+    columns: &RegisterFile,
+    fallback: Result<Option<u64>, Error>,
+) -> BacktraceEnd
+    ensures { result ≡ end_without_caller U.machine columns.now fallback }
+{
+    match fallback {
+        Ok(None) => BacktraceEnd::FramePointerZero,
+        Ok(Some(_)) => BacktraceEnd::NoCaller,
+        Err(_) => {
+            if has_no_frame_pointer::<U>(columns) {
+                BacktraceEnd::FramePointerZero
             } else {
-                Err(BacktraceEnd::NoCaller)
+                BacktraceEnd::NoCaller
             }
         }
-        Err(_) => Err(BacktraceEnd::NoCaller),
     }
 }
 
@@ -323,13 +438,13 @@ fn stepped<U: BacktraceUnwinder, M: CodeMemory>(
     answer: Result<Option<u64>, Error>,
     regs: U::UnwindRegs,
 ) -> Result<(), BacktraceEnd>
-    ensures moved { moved_to result frame.new ≡ stepped U.machine (M.code memory.now) found answer regs }
+    ensures moved { moved_to result frame.new ≡ stepped U.machine (M.code memory.now) found frame.old.columns answer regs }
     ensures ended { OnErr result (frame.new ≡ frame.old) }
 {
     let address = match answer {
         Ok(Some(address)) => address,
         Ok(None) => return Err(root_of(found)),
-        Err(error) => return Err(BacktraceEnd::Refused(error)),
+        Err(error) => return Err(end_of_error::<U>(found, &frame.columns, error)),
     };
     let Some(location) = FrameAddress::from_return_address(address) else {
         return Err(BacktraceEnd::Refused(Error::ReturnAddressIsNull));
@@ -344,18 +459,35 @@ fn stepped<U: BacktraceUnwinder, M: CodeMemory>(
     Ok(())
 }
 
-/// Returns whether a step returns an address that lies in code, right after a call.
-fn is_called<U: BacktraceUnwinder, M: CodeMemory>(
-    memory: &M,
-    answer: Result<Option<u64>, Error>,
-) -> bool
-    ensures { result ≡ is_called U.machine (M.code memory.now) answer }
+/// Returns the end of a stack at a step that is refused.
+fn end_of_error<U: BacktraceUnwinder>(
+    found: FoundBy,
+    columns: &RegisterFile,
+    error: Error,
+) -> BacktraceEnd
+    ensures { result ≡ end_of_error U.machine found columns.now error }
 {
-    match answer {
-        Ok(Some(address)) => is_in_code(memory, address) && U::is_after_call(memory, address),
-        Ok(None) => false,
-        Err(_) => false,
+    if is_by_frame_pointer(found) && has_no_frame_pointer::<U>(columns) {
+        return BacktraceEnd::FramePointerZero;
     }
+    BacktraceEnd::Refused(error)
+}
+
+/// Returns whether a step follows the frame pointer.
+fn is_by_frame_pointer(found: FoundBy) -> bool
+    ensures { result ≡ is_by_frame_pointer found }
+{
+    match found {
+        FoundBy::FramePointer => true,
+        FoundBy::Guess | FoundBy::Run | FoundBy::First | FoundBy::Cfi | FoundBy::Signal => false,
+    }
+}
+
+/// Returns whether a frame pointer is 0, and so leads to no frame.
+fn has_no_frame_pointer<U: BacktraceUnwinder>(columns: &RegisterFile) -> bool
+    ensures { result ≡ has_no_frame_pointer U.machine columns.now }
+{
+    known_or(columns, U::frame_pointer(), 1) == 0
 }
 
 /// Returns whether an allocation failed.

@@ -1,5 +1,5 @@
 //! Where the rows of frames come from.
-ghost use Rattle.std.specs.Prelude.{◌≡◌, ◌+◌, Option, None, IfOk, IfErr};
+ghost use Rattle.std.specs.Prelude.{◌≡◌, ◌+◌, ℕ, Bool, Option, None, IfOk, IfErr};
 ghost use Rattle.framehop_core.specs.CodeAddress.{FrameLocation, location_of};
 ghost use Rattle.framehop_cfi.specs.declared.storage.StorageLimits.{StorageLimits};
 ghost use Rattle.framehop_dwarf.specs.Unwinder.{reading_of};

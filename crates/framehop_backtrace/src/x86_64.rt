@@ -4,7 +4,8 @@ ghost use Rattle.framehop_core.specs.X86_64.Registers.{register as register_of, 
 ghost use Rattle.framehop_backtrace.specs.Columns.{column};
 ghost use Rattle.framehop_backtrace.specs.Machine.{all_columns, column_of, merged_x86_64};
 
-use crate::call::is_after_call_x86_64;
+use crate::call::{call_target_x86_64, is_after_call_x86_64};
+use crate::covers::is_covered;
 use crate::info::is_by_info;
 use crate::machine::{BacktraceUnwinder, known_or};
 use crate::memory::CodeMemory;
@@ -22,6 +23,8 @@ use framehop_columns::memory::WordMemory;
 use framehop_columns::register_file::RegisterFile;
 use framehop_core::x86_64::{Reg, UnwindRegsX86_64, UnwindRuleX86_64};
 use framehop_core::{Error, FrameAddress};
+use framehop_runs::run::{RunCaller, caller_by_runs};
+use framehop_runs::step::RunMemory;
 use framehop_signal::x86_64::{FRAME_SIZE, interrupted};
 use std::alloc::AllocError;
 
@@ -76,6 +79,14 @@ impl<D: SectionBytes + Drop, P: AllocationPolicy> BacktraceUnwinder for Unwinder
         is_after_call_x86_64(memory, address)
     }
 
+    fn call_target<M: CodeMemory>(memory: &M, address: u64) -> Option<u64> {
+        call_target_x86_64(memory, address)
+    }
+
+    fn frame_pointer() -> Register {
+        x86_64::RBP
+    }
+
     fn follow_frame_pointer<M: WordMemory>(
         memory: &M,
         is_first_frame: bool,
@@ -91,6 +102,14 @@ impl<D: SectionBytes + Drop, P: AllocationPolicy> BacktraceUnwinder for Unwinder
         step_at_start::<UnwindRuleX86_64, M>(memory, regs)
     }
 
+    fn caller_by_runs<M: RunMemory>(
+        memory: &M,
+        address: u64,
+        columns: &RegisterFile,
+    ) -> Option<RunCaller> {
+        caller_by_runs(memory, address, columns)
+    }
+
     fn is_by_info<M: WordMemory>(
         &self,
         address: FrameAddress,
@@ -98,6 +117,10 @@ impl<D: SectionBytes + Drop, P: AllocationPolicy> BacktraceUnwinder for Unwinder
         memory: &M,
     ) -> bool {
         is_by_info(self.inner(), address, regs, memory)
+    }
+
+    fn covers(&self, address: u64) -> bool {
+        is_covered(self.inner(), address)
     }
 }
 

@@ -1,0 +1,4 @@
+pub mod Runs
+pub mod StoreLemmas
+pub mod SoundLemmas
+pub mod CallerLemmas

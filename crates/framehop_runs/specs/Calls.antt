@@ -1,0 +1,15 @@
+-- The calls that a run has entered and not returned from, by where on the stack their return addresses are.
+use Rattle.std.specs.Prelude.{ℕ, Bool, true, false, nat_lt, if◌then◌else◌, List, [], ◌∷◌, ◌++◌, length, Option, Some, None}
+
+abbrev pub is_none : List ℕ → Bool
+is_none [] = true
+is_none (word ∷ words) = false
+
+-- one more; eight may be open
+abbrev pub opened : List ℕ → ℕ → Option (List ℕ)
+opened words word = if nat_lt (length words) 8 then Some (words ++ word ∷ []) else None
+
+-- what is left where there was room
+abbrev pub left_by : Bool → List ℕ → Option (List ℕ)
+left_by true words = Some words
+left_by false words = None

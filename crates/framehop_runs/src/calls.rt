@@ -1,0 +1,65 @@
+//! The calls that a run has entered.
+ghost use Rattle.std.specs.Prelude.{◌≡◌, [], nat_le};
+ghost use Rattle.std.specs.List.{filter};
+ghost use Rattle.framehop_runs.specs.Calls.{is_none, opened, left_by};
+
+use arrayvec::ArrayVec;
+use std::marker::Model;
+
+/// The calls that a run has entered and not returned from: the address (AVMA) of the word on the stack that has the
+/// return address of each, the outermost first.
+#[derive(Drop)]
+pub struct Calls {
+    words: ArrayVec<u64, 8>,
+}
+
+impl Model for Calls {
+    ghost use Rattle.std.specs.Prelude.{ℕ, List};
+
+    ghost Value = { List ℕ };
+
+    ghost view = { λ calls. calls.words.items };
+}
+
+impl Calls {
+    /// Returns no calls.
+    pub(crate) fn new() -> Self
+        ensures { result ≡ [] }
+    {
+        Calls {
+            words: ArrayVec::new(),
+        }
+    }
+
+    /// Returns whether no call is open.
+    pub(crate) fn is_none(&self) -> bool
+        ensures { result ≡ is_none self.now }
+    {
+        self.words.as_slice().is_empty()
+    }
+
+    /// Opens a call whose return address is at an address of the stack (AVMA). Returns `false` where eight are open.
+    pub(crate) fn open(&mut self, word: u64) -> bool
+        ensures { left_by result self.new ≡ opened self.old word }
+    {
+        if self.words.is_full() {
+            return false;
+        }
+        self.words.push(word);
+        true
+    }
+
+    /// Closes the calls whose return address is below the stack pointer (AVMA): it has been taken from the stack.
+    pub(crate) fn close_below(&mut self, sp: u64)
+        ensures { self.new ≡ filter (λ word. nat_le sp word) self.old }
+    {
+        close_below(&mut self.words, sp);
+    }
+}
+
+/// Drops the addresses (AVMA) below one.
+fn close_below(words: &mut ArrayVec<u64, 8>, sp: u64)
+    ensures { words.new.items ≡ filter (λ word. nat_le sp word) words.old.items }
+{
+    words.retain(|word| sp <= *word);
+}
