@@ -2,6 +2,6 @@
 #![tactic(auto)]
 
 pub mod crash;
-pub mod json;
+pub mod dump_report;
 pub mod modules;
 pub mod threads;

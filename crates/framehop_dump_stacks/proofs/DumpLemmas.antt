@@ -21,32 +21,6 @@ text-next text items all same i d within old new so_far is =
     ∙ subst (λ list. flat_map text (take i list) ++ text (get_or items i d) ≡ flat_map text (take (i + 1) list)) same
     (flat_map_more text [] (take i items) (get_or items i d) ∙ ap (flat_map text) (sym (take_more items i d within)))
 
--- one more item of a list, by its values
-pub list-next : {X V Y : Type 0} (view : X → V) (value : V → Y) (items : List X) (i : ℕ) (d : X) → i < length items
-    → (old new : List Y) → old ≡ map value (map view (take i items)) → new ≡ old ++ value (view (get_or items i d)) ∷ []
-    → new ≡ map value (map view (take (i + 1) items))
-list-next view value items i d within old new so_far is =
-    is ∙ ap (λ before. before ++ value (view (get_or items i d)) ∷ []) so_far
-    ∙ sym (map-append value (map view (take i items)) (view (get_or items i d) ∷ []))
-    ∙ ap (map value) (sym (map-append view (take i items) (get_or items i d ∷ [])))
-    ∙ ap (λ some. map value (map view some)) (sym (take_more items i d within))
-
--- the same of a list that is told to be another
-pub views-next : {X V Y : Type 0} (view : X → V) (value : V → Y) (items all : List X) → items ≡ all → (i : ℕ) (d : X) → i < length items
-    → (old new : List Y) → old ≡ map value (map view (take i all)) → new ≡ old ++ value (view (get_or items i d)) ∷ []
-    → new ≡ map value (map view (take (i + 1) all))
-views-next view value items all same i d within old new so_far is =
-    subst (λ list. new ≡ map value (map view (take (i + 1) list))) same
-    (list-next view value items i d within old new (so_far ∙ ap (λ list. map value (map view (take i list))) (sym same)) is)
-
--- one more item, which has the value of another's
-pub map-next : {X Y Z : Type 0} (f : Z → Y) (g : X → Y) (items : List X) (i : ℕ) (d : X) → i < length items
-    → (old : List Z) (one : Z) → map f old ≡ map g (take i items) → f one ≡ g (get_or items i d)
-    → map f (old ++ one ∷ []) ≡ map g (take (i + 1) items)
-map-next f g items i d within old one so_far is =
-    map-append f old (one ∷ []) ∙ ap (λ list. list ++ f one ∷ []) so_far ∙ ap (λ y. map g (take i items) ++ y ∷ []) is
-    ∙ sym (map-append g (take i items) (get_or items i d ∷ [])) ∙ ap (map g) (sym (take_more items i d within))
-
 -- what the next one counts for is added to the sum of those before
 pub sum-next : {X : Type 0} (count : X → ℕ) (items all : List X) → items ≡ all → (i : ℕ) (d : X) → i < length items
     → (old new : ℕ) → old ≡ sum_by count (take i all) → new ≡ old + count (get_or items i d) → new ≡ sum_by count (take (i + 1) all)

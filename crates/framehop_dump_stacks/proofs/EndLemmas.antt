@@ -1,6 +1,9 @@
 -- Results that are errors, and results that are not.
-use Rattle.std.proofs.Common.{◌≡◌, ◌∙◌, Result, Ok, Err, IfErr, ap, sym, subst}
+use Rattle.std.proofs.Common.{◌≡◌, ◌∙◌, ℕ, Result, Ok, Err, IfErr, ap, sym, subst, arith}
 use Rattle.std.specs.Result.{IsErrAnd}
+use Rattle.framehop_dump_stacks.specs.Ended.{MayEnd}
+use Rattle.framehop_dump_stacks.specs.declared.error.DumpStacksError.{DumpStacksError}
+use Rattle.framehop_dump_stacks.specs.declared.error.DumpStacksError.TheVariants.{Core, Minidump, OutOfMemory, GenerationsExhausted, EmptyMapping, CannotWrite}
 
 -- what holds of an error holds of the result that has it
 pub failed_as : {T E : Type 0} (result : Result T E) (error : E) (P : E → Type 0) → IsErrAnd result (λ back. back ≡ error) → P error → IfErr result P
@@ -14,3 +17,12 @@ value_or other (Err error) = other
 -- a result has one value
 pub ok-same : {A E : Type 0} (read : Result A E) (first second : A) → read ≡ Ok first → read ≡ Ok second → first ≡ second
 ok-same read first second one two = ap (value_or first) (sym one ∙ two)
+
+-- where no generation is drawn, an error is also one where more are
+pub may-end-more : (drawn : ℕ) (error : DumpStacksError) → MayEnd 0 error → MayEnd drawn error
+may-end-more drawn OutOfMemory may = may
+may-end-more drawn CannotWrite may = may
+may-end-more drawn GenerationsExhausted may = absurd (omega (arith, may))
+may-end-more drawn EmptyMapping may = may
+may-end-more drawn (Core refusal) may = may
+may-end-more drawn (Minidump refusal) may = may

@@ -11,3 +11,4 @@ mod FirstMappingLemmas
 mod OrderLemmas
 mod WithinLemmas
 mod ThreadNameLemmas
+mod ReportLemmas

@@ -3,10 +3,13 @@ use Rattle.std.specs.Prelude.{◌≡◌, ℕ, ◌+◌, ◌-◌, ◌^◌, nat_eq,
 use Rattle.std.specs.BTreeMap.{BTreeMap, get}
 use Rattle.std.specs.Fmt.{decimal}
 use Rattle.std.specs.Ordering.{nat_cmp}
+use Rattle.framehop_elf.specs.ErrorText.{elf_error_text}
 use Rattle.framehop_memory.specs.declared.memory.MemoryRange.{MemoryRange}
+use Rattle.framehop_pe_file.specs.ErrorText.{pe_error_text}
 use Rattle.framehop_processes.specs.declared.mapping.Mapping.{Mapping}
 use Rattle.framehop_symbols.specs.Files.{number_in}
 use Rattle.framehop_symbols.specs.Found.{has_names, is_unwind_data}
+use Rattle.framehop_symbols.specs.FramesText.{IsFramesText}
 use Rattle.framehop_symbols.specs.declared.files.Files.{Files}
 use Rattle.framehop_symbols.specs.declared.files.NamedFile.{NamedFile}
 use Rattle.framehop_symbols.specs.declared.object_file.ObjectFile.{ObjectFile}
@@ -63,28 +66,18 @@ abbrev pub lack_line : List ℕ → List ℕ → List ℕ
 lack_line name [] = []
 lack_line name (byte ∷ bytes) = plain name ++ (byte ∷ bytes) ++ 10 ∷ []
 
--- a `.debug_frame` that is compressed is not read: by which program it can be
-abbrev pub compressed_text : Bool → List ℕ
-compressed_text true =
-    codes ": its .debug_frame is compressed; objcopy --decompress-debug-sections makes a file of which it can be read"
-compressed_text false = []
+-- the lines of a file that was read: what was not found in it, and why its `.debug_frame` is not read
+abbrev pub AreObjectLines : List ℕ → ObjectFile → List ℕ → Type 0
+AreObjectLines name object lines = (frames : List ℕ) × IsFramesText object.frames_problem frames
+    × (lines ≡ lack_line name (lack_text (is_unwind_data object.«module».unwind_data) (has_names object.symbols.items)) ++ lack_line name frames)
 
--- both, of a file that was read
-abbrev pub object_lines : List ℕ → ObjectFile → List ℕ
-object_lines name object =
-    lack_line name (lack_text (is_unwind_data object.«module».unwind_data) (has_names object.symbols.items))
-    ++ lack_line name (compressed_text object.has_compressed_frames)
-
--- why nothing was read of a file, after its name: it is not there, it is another one, or its reader's reason, which is
--- printed
-abbrev pub IsReason : List ℕ → Type 0
-IsReason text = (reason : List ℕ) × (text ≡ codes ": " ++ reason)
-
+-- why nothing was read of a file, after its name: it is not there, it is another one, or its reader's reason, as that prints
+-- itself
 abbrev pub IsProblemText : Kind → FileProblem → List ℕ → Type 0
 IsProblemText kind OtherBuildId text = text ≡ codes ": its build id is not the " ++ kind_name kind ++ codes "'s"
 IsProblemText kind NotRead text = text ≡ codes ": can't be read"
-IsProblemText kind (Elf error) text = IsReason text
-IsProblemText kind (Pe error) text = IsReason text
+IsProblemText kind (Elf error) text = text ≡ codes ": " ++ elf_error_text error
+IsProblemText kind (Pe error) text = text ≡ codes ": " ++ pe_error_text error
 
 -- a mapping is of a file, with its unwind data
 abbrev pub is_of_file : Option ℕ → Mapping → Bool
@@ -109,11 +102,11 @@ in_memory_text kind false = []
 
 module _ (dump : DumpView) (files : Files) (mappings : List Mapping) where
   -- the lines of a file: its name, why nothing was read of it, and whether memory has its unwind data; or what was not found
-  -- in it, and that its unwind data is compressed
+  -- in it, and why its `.debug_frame` is not read
   abbrev pub IsLineOf : List ℕ → Option ObjectFile → Option FileProblem → List ℕ → Type 0
   IsLineOf name object (Some problem) line = (why : List ℕ) × IsProblemText dump.kind problem why
       × (line ≡ plain name ++ why ++ in_memory_text dump.kind (is_in_memory dump files mappings name) ++ 10 ∷ [])
-  IsLineOf name (Some object) None line = line ≡ object_lines name object
+  IsLineOf name (Some object) None line = AreObjectLines name object line
   IsLineOf name None None line = line ≡ []
 
   -- the lines of files, in their order

@@ -12,8 +12,8 @@ ghost use Rattle.framehop_frames.specs.Stack.{line_count};
 use crate::dump::{Dump, Thread};
 use crate::machine::Dumped;
 use crate::stack::walk_thread;
-use framehop_cfi::context::UnwindContext;
-use framehop_cfi::storage::StoreOnHeap;
+use framehop_backtrace::RowRoom;
+use framehop_cfi::storage::StoreOnStack;
 use framehop_explain::{Note, annotated as text_with};
 use framehop_frames::explain::note_stack;
 use framehop_processes::Process;
@@ -54,20 +54,12 @@ where
     ensures notes { IfOk result (λ notes. AreThreadNotes U.walker U.begins limit U.is_note files.now process.now.mappings
         process.now.unwinder.modules (dump_view dump.now) (dump_view dump.now).threads notes.items) }
 {
-    let mut unwind_context = UnwindContext::new_in(alloc)?;
+    let mut room = RowRoom::new_in(alloc)?;
     let mut cache = U::new_cache(alloc)?;
     let mut notes = Vec::new(alloc);
     for thread in &dump.threads {
         note_thread(
-            alloc,
-            dump,
-            files,
-            process,
-            &mut unwind_context,
-            &mut cache,
-            *thread,
-            limit,
-            &mut notes,
+            alloc, dump, files, process, &mut room, &mut cache, *thread, limit, &mut notes,
         )?;
     }
     Ok(notes)
@@ -79,7 +71,7 @@ fn note_thread<U: Dumped>(
     dump: &Dump<'_>,
     files: &Files<'_>,
     process: &Process<U>,
-    unwind_context: &mut UnwindContext<StoreOnHeap>,
+    room: &mut RowRoom<StoreOnStack>,
     cache: &mut U::Cache,
     thread: Thread<'_>,
     limit: u32,
@@ -94,15 +86,6 @@ fn note_thread<U: Dumped>(
         (noted_thread U.walker U.begins limit files.now process.now.mappings process.now.unwinder.modules (dump_view dump.now) (thread_view thread.entry)) added
         × (notes.new.items ≡ notes.old.items ++ added)) }
 {
-    let walked = walk_thread(
-        alloc,
-        dump,
-        files,
-        process,
-        unwind_context,
-        cache,
-        thread,
-        limit,
-    )?;
+    let walked = walk_thread(alloc, dump, files, process, room, cache, thread, limit)?;
     note_stack(alloc, process.unwinder(), dump, &walked, notes)
 }

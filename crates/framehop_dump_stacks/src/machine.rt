@@ -5,7 +5,7 @@ ghost use Rattle.framehop_frames.specs.declared.machine.Start.{Start};
 
 use crate::dump::Registers;
 use framehop::aarch64::{UnwindRegsAarch64, UnwinderAarch64};
-use framehop::cache::MayAllocateDuringUnwind;
+use framehop::cache::MustNotAllocateDuringUnwind;
 use framehop::section::SectionBytes;
 use framehop::x86_64::{UnwindRegsX86_64, UnwinderX86_64};
 use framehop_core::aarch64::PtrAuthMask;
@@ -23,7 +23,7 @@ pub(crate) trait Dumped: Steps {
         ensures { result ≡ begins (registers_view registers.entry) };
 }
 
-impl<D: SectionBytes + Drop> Dumped for UnwinderX86_64<D, MayAllocateDuringUnwind> {
+impl<D: SectionBytes + Drop> Dumped for UnwinderX86_64<D, MustNotAllocateDuringUnwind> {
     ghost use Rattle.framehop_dump_stacks.specs.Thread.{begins_x86_64};
 
     ghost begins = { begins_x86_64 };
@@ -41,7 +41,7 @@ impl<D: SectionBytes + Drop> Dumped for UnwinderX86_64<D, MayAllocateDuringUnwin
     }
 }
 
-impl<D: SectionBytes + Drop> Dumped for UnwinderAarch64<D, MayAllocateDuringUnwind> {
+impl<D: SectionBytes + Drop> Dumped for UnwinderAarch64<D, MustNotAllocateDuringUnwind> {
     ghost use Rattle.framehop_dump_stacks.specs.Thread.{begins_aarch64};
 
     ghost begins = { begins_aarch64 };

@@ -3,7 +3,7 @@ ghost use Rattle.std.specs.Prelude.{◌≡◌, Some, None, string_bytes, IfOk};
 ghost use Rattle.framehop_symbols.specs.Files.{number_in};
 ghost use Rattle.framehop_symbols.specs.Found.{has_names, is_unwind_data};
 ghost use Rattle.framehop_dump_stacks.specs.Dump.{dump_view};
-ghost use Rattle.framehop_dump_stacks.specs.Problems.{kind_name, range_end, needed_size, sizes_text, cut_text, wow64_text, file_text, lack_text, lack_line, compressed_text, object_lines, IsReason, IsProblemText, has_frames, is_in_memory, in_memory_text, IsLineOf, AreProblems, IsSaid};
+ghost use Rattle.framehop_dump_stacks.specs.Problems.{kind_name, range_end, needed_size, sizes_text, cut_text, wow64_text, file_text, lack_text, lack_line, AreObjectLines, IsProblemText, has_frames, is_in_memory, in_memory_text, IsLineOf, AreProblems, IsSaid};
 
 use crate::dump::{Dump, Kind};
 use crate::first_mappings::FirstMappings;
@@ -12,6 +12,7 @@ use framehop_frames::line::push_name;
 use framehop_memory::memory::MemoryRange;
 use framehop_processes::Mapping;
 use framehop_symbols::files::NamedFile;
+use framehop_symbols::frames_text::frames_text;
 use framehop_symbols::object_file::{FileProblem, ObjectFile};
 use std::alloc::{AllocError, Global};
 
@@ -19,7 +20,7 @@ use std::alloc::{AllocError, Global};
 const FIRST_OF_KERNEL: u64 = 0x8000_0000_0000_0000;
 
 /// Returns what is said of a dump: that its file is cut short, that it is of a 32-bit process of Windows, and of each file of
-/// which nothing was read, that lacks unwind data or names, or whose unwind data is compressed.
+/// which nothing was read, that lacks unwind data or names, or whose `.debug_frame` is not read.
 pub(crate) fn said_text(
     alloc: Global,
     modules: &DumpModules<'_, '_>,
@@ -97,7 +98,7 @@ fn wow64_text(wow64: bool) -> &'static str
 }
 
 /// Returns a line for each file of which nothing was read, in the order of the files: its name, why, and whether memory
-/// has its unwind data; and for each that lacks unwind data or names, or whose unwind data is compressed.
+/// has its unwind data; and for each that lacks unwind data or names, or whose `.debug_frame` is not read.
 fn problems_text(
     alloc: Global,
     modules: &DumpModules<'_, '_>,
@@ -139,26 +140,15 @@ fn lack_line(alloc: Global, name: &[u8], object: &ObjectFile<'_>) -> Result<Vec<
     name_line(alloc, name, lack)
 }
 
-/// Returns the lines of a file that was read: what it lacks, and that its `.debug_frame` is compressed.
+/// Returns the lines of a file that was read: what it lacks, and why its `.debug_frame` is not read.
 fn object_lines(alloc: Global, name: &[u8], object: &ObjectFile<'_>) -> Result<Vec<u8>, AllocError>
-    ensures { IfOk result (λ lines. lines.items ≡ object_lines name.now object.now) }
+    ensures { IfOk result (λ lines. AreObjectLines name.now object.now lines.items) }
 {
     let mut lines = lack_line(alloc, name, object)?;
-    let compressed = compressed_text(object.has_compressed_frames());
-    let line = name_line(alloc, name, compressed)?;
+    let frames = frames_text(alloc, object.frames_problem())?;
+    let line = name_line(alloc, name, frames.as_str())?;
     lines.extend_from_slice(line.as_slice())?;
     Ok(lines)
-}
-
-/// Returns what is said of a file whose `.debug_frame` is compressed.
-fn compressed_text(compressed: bool) -> &'static str
-    ensures { result.now ≡ compressed_text compressed }
-{
-    if compressed {
-        ": its .debug_frame is compressed; objcopy --decompress-debug-sections makes a file of which it can be read"
-    } else {
-        ""
-    }
 }
 
 /// Returns a line of a name and what is said of it, if something is.
@@ -217,18 +207,9 @@ fn problem_text(alloc: Global, kind: Kind, problem: FileProblem) -> Result<Strin
             let kind = kind_name(kind);
             format!(in alloc; ": its build id is not the {kind}'s")
         }
-        FileProblem::Elf(error) => reason_text(alloc, format!(in alloc; "{error}")?),
-        FileProblem::Pe(error) => reason_text(alloc, format!(in alloc; "{error}")?),
+        FileProblem::Elf(error) => format!(in alloc; ": {error}"),
+        FileProblem::Pe(error) => format!(in alloc; ": {error}"),
     }
-}
-
-/// Returns a reader's reason, as it comes after a name.
-fn reason_text(alloc: Global, reason: String) -> Result<String, AllocError>
-    ensures { IfOk result (λ text. IsReason (string_bytes text)) }
-{
-    let mut text = String::from_str(alloc, ": ")?;
-    text.push_str(reason.as_str())?;
-    Ok(text)
 }
 
 /// Returns whether memory has the unwind data of a file.

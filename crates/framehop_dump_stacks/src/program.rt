@@ -23,7 +23,7 @@ use crate::modules::{DumpModules, bare_module, leave_out_files, map_files, read_
 use crate::problems::said_text;
 use crate::text::threads_text;
 use framehop::aarch64::UnwinderAarch64;
-use framehop::cache::MayAllocateDuringUnwind;
+use framehop::cache::MustNotAllocateDuringUnwind;
 use framehop::x86_64::UnwinderX86_64;
 use framehop_coredump::core_file::Machine;
 use framehop_memory::left_out::LeftOut;
@@ -213,13 +213,13 @@ pub(crate) fn write_dump_stacks<'m, W: Write, E: Write>(
     };
     match dump.machine {
         Machine::X86_64 => write_threads::<
-            UnwinderX86_64<MappedBytes<'m>, MayAllocateDuringUnwind>,
+            UnwinderX86_64<MappedBytes<'m>, MustNotAllocateDuringUnwind>,
             DumpModules<'_, 'm>,
             W,
             E,
         >(alloc, &modules, &modules, limit, explain, out, err),
         Machine::Aarch64 => write_threads::<
-            UnwinderAarch64<MappedBytes<'m>, MayAllocateDuringUnwind>,
+            UnwinderAarch64<MappedBytes<'m>, MustNotAllocateDuringUnwind>,
             DumpModules<'_, 'm>,
             W,
             E,

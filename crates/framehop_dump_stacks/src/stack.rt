@@ -13,9 +13,8 @@ ghost use Rattle.framehop_dump_stacks.specs.Thread.{thread_stack};
 use crate::dump::{Dump, Thread, is_code_at};
 use crate::machine::Dumped;
 use framehop::walk::Words;
-use framehop_backtrace::OrElse;
-use framehop_cfi::context::UnwindContext;
-use framehop_cfi::storage::StoreOnHeap;
+use framehop_backtrace::{OrElse, RowRoom};
+use framehop_cfi::storage::StoreOnStack;
 use framehop_frames::memory::{KnownMemory, MappedMemory};
 use framehop_frames::rows::DebugFrames;
 use framehop_frames::stack::Stack;
@@ -32,7 +31,7 @@ pub(crate) fn walk_thread<U: Dumped>(
     dump: &Dump<'_>,
     files: &Files<'_>,
     process: &Process<U>,
-    unwind_context: &mut UnwindContext<StoreOnHeap>,
+    room: &mut RowRoom<StoreOnStack>,
     cache: &mut U::Cache,
     thread: Thread<'_>,
     limit: u32,
@@ -57,16 +56,7 @@ pub(crate) fn walk_thread<U: Dumped>(
         first: unwinder,
         second: &DebugFrames { files, process },
     };
-    let stack = walk_stack(
-        alloc,
-        unwinder,
-        &rows,
-        unwind_context,
-        cache,
-        &memory,
-        start,
-        limit,
-    )?;
+    let stack = walk_stack(alloc, unwinder, &rows, room, cache, &memory, start, limit)?;
     Ok(Some(stack))
 }
 

@@ -13,8 +13,8 @@ use crate::exception::{exception_text, unnamed_exception};
 use crate::machine::Dumped;
 use crate::signal::signal_text;
 use crate::stack::walk_thread;
-use framehop_cfi::context::UnwindContext;
-use framehop_cfi::storage::StoreOnHeap;
+use framehop_backtrace::RowRoom;
+use framehop_cfi::storage::StoreOnStack;
 use framehop_frames::line::{push_name, refused_block};
 use framehop_frames::numbered::numbered_block;
 use framehop_processes::Process;
@@ -33,20 +33,12 @@ where
     U::Cache: Drop,
     ensures { IfOk result (λ text. text.items ≡ blocks_of U.walker U.begins limit process.now.unwinder.modules (dump_view dump.now) files.now process.now.mappings) }
 {
-    let mut unwind_context = UnwindContext::new_in(alloc)?;
+    let mut room = RowRoom::new_in(alloc)?;
     let mut cache = U::new_cache(alloc)?;
     let mut text = Vec::new(alloc);
     for thread in &dump.threads {
         push_thread(
-            alloc,
-            &mut text,
-            dump,
-            files,
-            process,
-            &mut unwind_context,
-            &mut cache,
-            *thread,
-            limit,
+            alloc, &mut text, dump, files, process, &mut room, &mut cache, *thread, limit,
         )?;
     }
     Ok(text)
@@ -59,7 +51,7 @@ fn push_thread<U: Dumped>(
     dump: &Dump<'_>,
     files: &Files<'_>,
     process: &Process<U>,
-    unwind_context: &mut UnwindContext<StoreOnHeap>,
+    room: &mut RowRoom<StoreOnStack>,
     cache: &mut U::Cache,
     thread: Thread<'_>,
     limit: u32,
@@ -71,16 +63,7 @@ fn push_thread<U: Dumped>(
         (thread_stack U.walker U.begins limit files.now process.now.mappings process.now.unwinder.modules (dump_view dump.now) (thread_view thread.entry))) }
 {
     let head = thread_head(alloc, dump.name, dump.pid, thread)?;
-    let lines = thread_lines(
-        alloc,
-        dump,
-        files,
-        process,
-        unwind_context,
-        cache,
-        thread,
-        limit,
-    )?;
+    let lines = thread_lines(alloc, dump, files, process, room, cache, thread, limit)?;
     text.extend_from_slice(head.as_slice())?;
     text.extend_from_slice(lines.as_slice())?;
     Ok(())
@@ -167,7 +150,7 @@ fn thread_lines<U: Dumped>(
     dump: &Dump<'_>,
     files: &Files<'_>,
     process: &Process<U>,
-    unwind_context: &mut UnwindContext<StoreOnHeap>,
+    room: &mut RowRoom<StoreOnStack>,
     cache: &mut U::Cache,
     thread: Thread<'_>,
     limit: u32,
@@ -177,16 +160,7 @@ fn thread_lines<U: Dumped>(
     ensures told { U.is_sound process.now.unwinder cache.old → IfOk result (λ block. block.items ≡ numbered_text files.now process.now.mappings
         (thread_stack U.walker U.begins limit files.now process.now.mappings process.now.unwinder.modules (dump_view dump.now) (thread_view thread.entry))) }
 {
-    let walked = walk_thread(
-        alloc,
-        dump,
-        files,
-        process,
-        unwind_context,
-        cache,
-        thread,
-        limit,
-    )?;
+    let walked = walk_thread(alloc, dump, files, process, room, cache, thread, limit)?;
     match walked {
         Some(stack) => numbered_block(alloc, files, process.mappings(), &stack),
         None => refused_block(alloc, "no-registers"),

@@ -4,6 +4,7 @@ use Rattle.std.specs.Option.{option_or}
 use Rattle.framehop_processes.specs.declared.mapping.Mapping.{Mapping}
 use Rattle.framehop_signal.specs.Trampoline.{is_trampoline}
 use Rattle.framehop_symbols.specs.Code.{code_at, is_mapped}
+use Rattle.framehop_symbols.specs.Place.{PlaceView, in_function, in_unnamed, in_file, unmapped, place_at}
 use Rattle.framehop_symbols.specs.declared.files.Files.{Files}
 use Rattle.framehop_backtrace.specs.Call.{passes}
 use Rattle.framehop_backtrace.specs.Code.{Code}
@@ -24,6 +25,13 @@ front_of size bytes = if nat_le size (length bytes) then Some (take size bytes) 
 abbrev pub bytes_at : (ℕ → Option (List ℕ)) → Files → List Mapping → ℕ → ℕ → Option (List ℕ)
 bytes_at known files mappings address size = option_and_then (front_of size) (bytes_from known files mappings address)
 
+-- where the function begins that has an address, by its place: the start of its name, or of its FDE
+abbrev pub start_in : ℕ → PlaceView → Option ℕ
+start_in address (in_function file name offset) = Some (address - offset)
+start_in address (in_unnamed file start svma) = Some (address - (svma - start))
+start_in address (in_file file svma) = None
+start_in address unmapped = None
+
 -- The code of a process: what a file is mapped to is executable, and what is known to be. A trampoline is known by its
 -- bytes.
 abbrev pub code_of : (ℕ → Option (List ℕ)) → (ℕ → Bool) → Files → List Mapping → Code
@@ -31,4 +39,5 @@ code_of known is_code files mappings = record {
   bytes = bytes_at known files mappings;
   is_executable = λ address. is_mapped mappings address || is_code address;
   is_trampoline = λ address. passes is_trampoline (bytes_from known files mappings address);
+  start_of = λ address. start_in address (place_at files mappings address);
 }

@@ -1,6 +1,8 @@
 -- What the contracts of this crate cite: stacks and their text.
 pub mod Start
+pub mod Unseen
 pub mod Line
+pub mod Missing
 pub mod Stack
 pub mod Numbered
 pub mod Explained
@@ -10,3 +12,7 @@ pub mod Rows
 pub mod Taken
 pub mod TakenText
 pub mod Notes
+-- Which JSON value (RFC 8259) says the same.
+pub mod JsonValues
+pub mod JsonFrames
+pub mod JsonFiles

@@ -1,17 +1,18 @@
 -- Stacks as text: folded stacks, as flame graph tools read them (Brendan Gregg's FlameGraph, `stackcollapse-perf.pl`), and
 -- blocks of a line for each frame.
-use Rattle.std.specs.Prelude.{ℕ, ◌+◌, ◌/◌, ◌%◌, nat_le, nat_lt, length, take, Bool, true, false, not, ◌&&◌, ◌||◌, List, [], ◌∷◌, ◌++◌, codes, reverse, Option, Some, None, ◌==◌, if◌then◌else◌}
+use Rattle.std.specs.Prelude.{ℕ, ◌+◌, ◌-◌, ◌/◌, ◌%◌, nat_le, nat_lt, length, take, Bool, true, false, not, ◌&&◌, ◌||◌, List, [], ◌∷◌, ◌++◌, codes, reverse, Option, Some, None, ◌==◌, if◌then◌else◌}
 use Rattle.std.specs.Fmt.{decimal, digits}
-use Rattle.std.specs.List.{after_last, flat_map, take_while}
+use Rattle.std.specs.List.{after_last, flat_map, list_any, take_while}
 use Rattle.std.specs.Str.{is_utf8}
-use Rattle.framehop_core.specs.CodeAddress.{FrameLocation, address_of, lookup_address}
+use Rattle.framehop_core.specs.CodeAddress.{FrameLocation, address_of, lookup_address, is_return_address}
 use Rattle.framehop_core.specs.declared.error.Error.{Error}
 use Rattle.framehop_core.specs.declared.error.Error.TheVariants.{CouldNotReadStack, FramepointerUnwindingMovedBackwards, DidNotAdvance, IntegerOverflow, ReturnAddressIsNull, OutOfMemory}
 use Rattle.framehop_backtrace.specs.declared.frame.BacktraceEnd.{BacktraceEnd}
 use Rattle.framehop_backtrace.specs.declared.frame.BacktraceEnd.TheVariants.{Root, FramePointerZero, Limit, SignalFrameUnread, CfaUnknown, ReturnAddressUnknown, DidNotAdvance as RowDidNotAdvance, RegistersUnknown, Refused, NoCaller, NotCode}
 use Rattle.framehop_backtrace.specs.declared.frame.FoundBy.{FoundBy}
 use Rattle.framehop_explain.specs.Note.{has_c1_after}
-use Rattle.framehop_backtrace.specs.declared.frame.FoundBy.TheVariants.{First, Cfi, Signal, FramePointer, Guess}
+use Rattle.framehop_frames.specs.Unseen.{has_unseen_after}
+use Rattle.framehop_backtrace.specs.declared.frame.FoundBy.TheVariants.{First, Cfi, Signal, Run, FramePointer, Guess}
 use Rattle.framehop_processes.specs.declared.mapping.Mapping.{Mapping}
 use Rattle.framehop_symbols.specs.declared.files.Files.{Files}
 use Rattle.framehop_symbols.specs.Place.{PlaceView, in_function, in_unnamed, in_file, unmapped, place_at}
@@ -26,9 +27,9 @@ hexadecimal n = digits 16 false n
 abbrev pub LONGEST_NAME : ℕ
 LONGEST_NAME = 2048
 
--- a text: UTF-8 without such characters
+-- a text: UTF-8 without control characters of C1 and without those that are not seen
 unfoldable pub is_text : List ℕ → Bool
-is_text name = is_utf8 name && not (has_c1_after 0 name)
+is_text name = is_utf8 name && not (has_c1_after 0 name || has_unseen_after 0 0 name)
 
 -- a digit of a number in hexadecimal
 abbrev pub hex_digit : ℕ → ℕ
@@ -72,9 +73,9 @@ label_of (in_unnamed file start address) = plain (base_name file) ++ codes "+0x"
 label_of (in_file file address) = plain (base_name file) ++ codes "+0x" ++ hexadecimal address
 label_of unmapped = codes "[unknown]"
 
--- what a refusal is called
+-- what a refusal is called: gdb says "Cannot access memory at address" of a word that can't be read
 abbrev pub refusal_name : Error → List ℕ
-refusal_name (CouldNotReadStack address) = codes "could-not-read-stack"
+refusal_name (CouldNotReadStack address) = codes "cannot-access-memory"
 refusal_name FramepointerUnwindingMovedBackwards = codes "moved-backwards"
 refusal_name DidNotAdvance = codes "did-not-advance"
 refusal_name IntegerOverflow = codes "integer-overflow"
@@ -95,10 +96,24 @@ end_name (Refused error) = refusal_name error
 end_name NoCaller = codes "no-caller"
 end_name (NotCode address) = codes "not-code"
 
--- the same with the address that lies in no code
+-- the address that a walk ended at: that of a word which can't be read, or the one in no code
+abbrev pub address_of_refusal : Error → Option ℕ
+address_of_refusal (CouldNotReadStack address) = Some address
+address_of_refusal error = None
+
+abbrev pub address_of_end : BacktraceEnd → Option ℕ
+address_of_end (Refused error) = address_of_refusal error
+address_of_end (NotCode address) = Some address
+address_of_end end = None
+
+-- an address after a name, if there is one
+abbrev pub address_text : Option ℕ → List ℕ
+address_text (Some address) = codes " " ++ hexadecimal address
+address_text None = []
+
+-- what the end of a walk is called, with its address
 abbrev pub end_text : BacktraceEnd → List ℕ
-end_text (NotCode address) = codes "not-code" ++ codes " " ++ hexadecimal address
-end_text end = end_name end
+end_text end = end_name end ++ address_text (address_of_end end)
 
 -- a mark between frames
 abbrev pub mark : List ℕ → List ℕ
@@ -124,6 +139,22 @@ pub record ShownFrame : Type 0 where
 abbrev pub looked_up : ShownFrame → ℕ
 looked_up frame = if frame.is_trampoline then address_of frame.location else lookup_address frame.location
 
+-- a frame is after a call: the byte before its address is looked up
+abbrev pub is_after_call : ShownFrame → Bool
+is_after_call frame = is_return_address frame.location && not frame.is_trampoline
+
+-- A place for another address than the one that was looked up, in the same function or file: as far from where that begins.
+abbrev pub told_at : ℕ → ℕ → PlaceView → PlaceView
+told_at address looked_up (in_function file name offset) = in_function file name (address - (looked_up - offset))
+told_at address looked_up (in_unnamed file start svma) = in_unnamed file start (address - (looked_up - svma))
+told_at address looked_up (in_file file svma) = in_file file (address - (looked_up - svma))
+told_at address looked_up unmapped = unmapped
+
+-- Where a frame is: in the function of the address that is looked up, at its own address, as gdb prints it.
+abbrev pub frame_place : Files → List Mapping → ShownFrame → PlaceView
+frame_place files mappings frame =
+    told_at (address_of frame.location) (looked_up frame) (place_at files mappings (looked_up frame))
+
 -- what a frame is called: a trampoline as debuggers call it
 abbrev pub frame_label : Files → List Mapping → ShownFrame → List ℕ
 frame_label files mappings frame =
@@ -132,6 +163,7 @@ frame_label files mappings frame =
 
 -- a frame is sure, but for those that no unwind data tells
 abbrev pub is_sure_by : FoundBy → Bool
+is_sure_by Run = false
 is_sure_by FramePointer = false
 is_sure_by Guess = false
 is_sure_by First = true
@@ -140,6 +172,22 @@ is_sure_by Signal = true
 
 abbrev pub is_sure : ShownFrame → Bool
 is_sure frame = is_sure_by frame.found
+
+-- a frame is a guess
+abbrev pub is_guess_by : FoundBy → Bool
+is_guess_by Guess = true
+is_guess_by Run = false
+is_guess_by FramePointer = false
+is_guess_by First = false
+is_guess_by Cfi = false
+is_guess_by Signal = false
+
+abbrev pub is_guess : ShownFrame → Bool
+is_guess frame = is_guess_by frame.found
+
+-- one of frames is a guess
+abbrev pub has_guess : List ShownFrame → Bool
+has_guess frames = list_any is_guess frames
 
 -- the frames that are shown: all, or only those before the first that is not sure
 abbrev pub part_of : Bool → List ShownFrame → List ShownFrame
@@ -175,6 +223,7 @@ abbrev pub found_text : FoundBy → List ℕ
 found_text First = []
 found_text Cfi = codes " [cfi]"
 found_text Signal = codes " [signal]"
+found_text Run = codes " [code]"
 found_text FramePointer = codes " [frame-pointer]"
 found_text Guess = codes " [guess]"
 
@@ -186,7 +235,7 @@ trampoline_text is_trampoline = if is_trampoline then codes "<signal handler cal
 unfoldable pub frame_line : Files → List Mapping → ShownFrame → List ℕ
 frame_line files mappings frame =
     hexadecimal (address_of frame.location) ++ 32 ∷ trampoline_text frame.is_trampoline
-    ++ described (place_at files mappings (looked_up frame)) ++ found_text frame.found ++ 10 ∷ []
+    ++ described (frame_place files mappings frame) ++ found_text frame.found ++ 10 ∷ []
 
 -- the last line of a block, and a blank line
 abbrev pub last_line : List ℕ → List ℕ

@@ -12,6 +12,7 @@ use Rattle.framehop_backtrace.specs.declared.frame.BacktraceEnd.{BacktraceEnd}
 use Rattle.framehop_backtrace.specs.declared.frame.BacktraceEnd.TheVariants.{Root, FramePointerZero, Limit, SignalFrameUnread, CfaUnknown, ReturnAddressUnknown, DidNotAdvance, RegistersUnknown, Refused, NoCaller, NotCode}
 use Rattle.framehop_backtrace.specs.declared.frame.FoundBy.{FoundBy}
 use Rattle.framehop_explain.specs.Note.{note_line}
+use Rattle.framehop_frames.specs.Missing.{end_of_walk}
 use Rattle.framehop_frames.specs.Walker.{Walker, backtrace_from}
 use Rattle.framehop_frames.specs.declared.machine.Start.{Start}
 use Rattle.framehop_frames.specs.declared.stack.Stack.{Stack}
@@ -41,26 +42,30 @@ noted_of code frame = record {
   is_trampoline = is_in_trampoline code frame.location;
 }
 
--- what is noted of a stack: its frames, and how its walk ended
+-- what is noted of a stack: its frames, how the step from the last one ended, and how its walk did
 pub record NotedStack (Regs : Type 0) : Type 0 where
   pub frames : List (NotedFrame Regs)
+  pub step_end : BacktraceEnd
   pub end : BacktraceEnd
 
 abbrev pub noted_stack : {Regs : Type 0} → Stack Regs → NotedStack Regs
-noted_stack stack = record { frames = map noted_frame stack.frames.items; end = stack.end }
+noted_stack stack =
+    record { frames = map noted_frame stack.frames.items; step_end = stack.step_end; end = stack.end }
 
 abbrev pub option_noted : {Regs : Type 0} → Option (Stack Regs) → Option (NotedStack Regs)
 option_noted (Some stack) = Some (noted_stack stack)
 option_noted None = None
 
 -- that of the backtrace from the registers with which a walk begins, at most so many frames
-abbrev pub noted_by : {Regs : Type 0} → Code → Backtrace Regs → NotedStack Regs
-noted_by code backtrace = record { frames = map (noted_of code) backtrace.frames; end = backtrace.end }
+abbrev pub noted_by : {Regs : Type 0} → Code → Backtrace Regs → BacktraceEnd → NotedStack Regs
+noted_by code backtrace end =
+    record { frames = map (noted_of code) backtrace.frames; step_end = backtrace.end; end = end }
 
 abbrev pub noted_from : {Regs : Type 0} → Walker Regs → ℕ → List ModuleView → (FrameLocation → Finding) → Memory → Code
     → Start Regs → NotedStack Regs
 noted_from walker limit modules rows memory code start =
-    noted_by code (backtrace_from walker limit modules rows memory code start)
+    let backtrace = backtrace_from walker limit modules rows memory code start in
+    noted_by code backtrace (end_of_walk walker.machine rows memory backtrace)
 
 -- how the caller of a frame was found, by the frames after it, or how the walk ended there
 abbrev pub caller_of : {Regs : Type 0} → BacktraceEnd → List (NotedFrame Regs) → Result FoundBy BacktraceEnd
@@ -101,5 +106,5 @@ module _ {Regs : Type 0} (is_note : FrameLocation → Regs → Result FoundBy Ba
   -- notes are those of a stack's block: of one without frames there is nothing to note
   abbrev pub AreStackNotes : Option (NotedStack Regs) → List (List ℕ) → Type 0
   AreStackNotes None notes = notes ≡ [] ∷ [] ∷ [] ∷ []
-  AreStackNotes (Some stack) notes = (found : List (List ℕ)) × AreFrameNotes stack.end stack.frames found
+  AreStackNotes (Some stack) notes = (found : List (List ℕ)) × AreFrameNotes stack.step_end stack.frames found
       × (notes ≡ [] ∷ found ++ end_note stack.end ∷ [] ∷ [])

@@ -6,7 +6,7 @@ use Rattle.framehop_processes.specs.declared.mapping.Mapping.{Mapping}
 use Rattle.framehop_backtrace.specs.Rows.{Finding, no_row, or_else}
 use Rattle.framehop_symbols.specs.DebugFrame.{debug_frame_at}
 use Rattle.framehop_symbols.specs.declared.files.Files.{Files}
-use Rattle.framehop_frames.specs.Walker.{Walker}
+use Rattle.framehop_frames.specs.Walker.{Walker, row_limits}
 
 module _ (row_in : UnwindData → ℕ → Bool → Finding) where
   -- what the `.debug_frame` of a file has for a frame
@@ -21,4 +21,4 @@ module _ (row_in : UnwindData → ℕ → Bool → Finding) where
 -- what the modules of a process have for a frame, by their bytes, or else the `.debug_frame` of the file that is mapped there
 abbrev pub rows_in : {Regs : Type 0} → Walker Regs → Files → List Mapping → List ModuleView → FrameLocation → Finding
 rows_in walker files mappings modules location =
-    or_else (walker.rows modules location) (debug_rows (walker.row_in None) files mappings location)
+    or_else (walker.rows modules location) (debug_rows (walker.row_in row_limits) files mappings location)

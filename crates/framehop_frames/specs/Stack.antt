@@ -10,6 +10,7 @@ use Rattle.framehop_backtrace.specs.Rows.{Finding}
 use Rattle.framehop_backtrace.specs.declared.frame.BacktraceEnd.{BacktraceEnd}
 use Rattle.framehop_symbols.specs.declared.files.Files.{Files}
 use Rattle.framehop_frames.specs.Line.{ShownFrame, line_of, refused_line, frame_label, frame_line, block_of, last_line}
+use Rattle.framehop_frames.specs.Missing.{end_of_walk}
 use Rattle.framehop_frames.specs.Walker.{Walker, backtrace_from}
 use Rattle.framehop_frames.specs.declared.machine.Start.{Start}
 use Rattle.framehop_frames.specs.declared.stack.Stack.{Stack}
@@ -33,14 +34,15 @@ pub data StackView : Type 0 where
 abbrev pub stack_view : {Regs : Type 0} → Stack Regs → StackView
 stack_view stack = walked (map shown_frame stack.frames.items) stack.end
 
-abbrev pub stack_of : {Regs : Type 0} → Code → Backtrace Regs → StackView
-stack_of code backtrace = walked (map (shown_of code) backtrace.frames) backtrace.end
+abbrev pub stack_of : {Regs : Type 0} → Code → Backtrace Regs → BacktraceEnd → StackView
+stack_of code backtrace end = walked (map (shown_of code) backtrace.frames) end
 
 -- the stack from the registers with which a walk begins, at most so many frames
 abbrev pub stack_from : {Regs : Type 0} → Walker Regs → ℕ → List ModuleView → (FrameLocation → Finding) → Memory → Code → Start Regs
     → StackView
 stack_from walker limit modules rows memory code start =
-    stack_of code (backtrace_from walker limit modules rows memory code start)
+    let backtrace = backtrace_from walker limit modules rows memory code start in
+    stack_of code backtrace (end_of_walk walker.machine rows memory backtrace)
 
 -- the same, if there is one
 abbrev pub option_stack_view : {Regs : Type 0} → Option (Stack Regs) → StackView

@@ -3,7 +3,7 @@ use Rattle.std.specs.Prelude.{Bool, true, false, Result, Ok, Err, if◌then◌el
 use Rattle.framehop_backtrace.specs.declared.frame.BacktraceEnd.{BacktraceEnd}
 use Rattle.framehop_backtrace.specs.declared.frame.BacktraceEnd.TheVariants.{Root, FramePointerZero, CfaUnknown, ReturnAddressUnknown, DidNotAdvance, NoCaller}
 use Rattle.framehop_backtrace.specs.declared.frame.FoundBy.{FoundBy}
-use Rattle.framehop_backtrace.specs.declared.frame.FoundBy.TheVariants.{Cfi, FramePointer as ByFramePointer, Guess}
+use Rattle.framehop_backtrace.specs.declared.frame.FoundBy.TheVariants.{Cfi, Run as ByRun, FramePointer as ByFramePointer, Guess}
 use Rattle.framehop_explain.specs.declared.source.RowSource.TheVariants.{Row as HasRow}
 use Rattle.framehop_explain.specs.declared.source.Source.{Source}
 use Rattle.framehop_explain.specs.declared.source.Source.TheVariants.{Fde, CompactFde, Pe, Compact}
@@ -12,7 +12,7 @@ use Rattle.framehop_explain.specs.declared.told.Told.TheVariants.{Rule, Computed
 use Rattle.framehop_frames.specs.declared.note.Data.{Data}
 use Rattle.framehop_frames.specs.declared.note.Data.TheVariants as has
 use Rattle.framehop_frames.specs.declared.note.Taken.{Taken}
-use Rattle.framehop_frames.specs.declared.note.Taken.TheVariants.{Step, Row, DebugFrame, Call, FramePointer}
+use Rattle.framehop_frames.specs.declared.note.Taken.TheVariants.{Step, Row, DebugFrame, Call, Run, FramePointer}
 
 -- unwind data tells the caller, or that there is none, or that it can't be told
 abbrev pub is_by_row : Result FoundBy BacktraceEnd → Bool
@@ -22,6 +22,11 @@ is_by_row (Err CfaUnknown) = true
 is_by_row (Err ReturnAddressUnknown) = true
 is_by_row (Err DidNotAdvance) = true
 is_by_row caller = false
+
+-- the code was run to its return
+abbrev pub is_by_run : Result FoundBy BacktraceEnd → Bool
+is_by_run (Ok ByRun) = true
+is_by_run caller = false
 
 -- after a guess the frame pointer was followed
 abbrev pub is_by_frame_pointer : Result FoundBy BacktraceEnd → Bool
@@ -56,8 +61,10 @@ taken_by has.Row caller = Step
 taken_by has.Info caller = Step
 taken_by has.RefusedRow caller = Row
 taken_by has.Start caller =
-    if is_by_row caller then DebugFrame else (if is_by_frame_pointer caller then FramePointer else Step)
-taken_by has.Nothing caller = if is_by_row caller then DebugFrame else Step
+    if is_by_row caller then DebugFrame else (if is_by_run caller then Run
+    else (if is_by_frame_pointer caller then FramePointer else Step))
+taken_by has.Nothing caller =
+    if is_by_row caller then DebugFrame else (if is_by_run caller then Run else Step)
 
 -- in no module
 abbrev pub taken_outside : Result FoundBy BacktraceEnd → Taken

@@ -7,7 +7,7 @@ use Rattle.framehop_core.specs.X86_64.Registers.{Registers as RegistersX86_64}
 use Rattle.framehop_core.specs.declared.aarch64.unwind_rule.UnwindRuleAarch64.TheVariants as aarch64_rule
 use Rattle.framehop_core.specs.declared.x86_64.unwind_rule.UnwindRuleX86_64.TheVariants as x86_64_rule
 use Rattle.framehop.specs.Modules.{ModuleView}
-use Rattle.framehop.specs.Policy.{with_allocation}
+use Rattle.framehop.specs.Policy.{without_allocation}
 use Rattle.framehop_backtrace.specs.declared.frame.BacktraceEnd.{BacktraceEnd}
 use Rattle.framehop_backtrace.specs.declared.frame.FoundBy.{FoundBy}
 use Rattle.framehop_explain.specs.Architectures.{explaining_x86_64, explaining_aarch64}
@@ -19,10 +19,10 @@ use Rattle.framehop_explain.specs.SourceText.{hexadecimal, source_text}
 use Rattle.framehop_explain.specs.declared.source.Source.{Source}
 use Rattle.framehop_frames.specs.Taken.{data_of, taken_by, taken_outside}
 use Rattle.framehop_frames.specs.declared.note.Taken.{Taken}
-use Rattle.framehop_frames.specs.declared.note.Taken.TheVariants.{Step, Row, DebugFrame, Call, FramePointer}
+use Rattle.framehop_frames.specs.declared.note.Taken.TheVariants.{Step, Row, DebugFrame, Call, Run, FramePointer}
 
 -- where a frame is in its module, where that has what unwinds it, and what was taken: a row over all registers, a row of
--- `.debug_frame`, or, after a guess, the frame pointer, with the text of the fallback rule
+-- `.debug_frame`, the code up to its return, or, after a guess, the frame pointer, with the text of the fallback rule
 abbrev pub row_text : ℕ → Source → List ℕ
 row_text address source =
     text_of (codes "0x" ∷ hexadecimal address ∷ codes ": " ∷ source_text source ∷ codes ": over all registers" ∷ [])
@@ -32,15 +32,20 @@ debug_frame_text address source = text_of (
     codes "0x" ∷ hexadecimal address ∷ codes ": " ∷ source_text source
     ∷ codes "; row of .debug_frame: over all registers" ∷ [])
 
+abbrev pub run_text : ℕ → Source → List ℕ
+run_text address source = text_of (
+    codes "0x" ∷ hexadecimal address ∷ codes ": " ∷ source_text source ∷ codes ": by its code, up to its return" ∷ [])
+
 abbrev pub fallback_text : ℕ → Source → List ℕ → List ℕ
 fallback_text address source fallback = text_of (
-    codes "0x" ∷ hexadecimal address ∷ codes ": " ∷ source_text source ∷ codes ": no call leads there: fallback: "
+    codes "0x" ∷ hexadecimal address ∷ codes ": " ∷ source_text source ∷ codes ": no likelier call: fallback: "
     ∷ fallback ∷ [])
 
 -- what a walk took for the caller of a frame in a module, where it did not take the library's step
 abbrev pub taken_text : {Rule : Type 0} → List ℕ → FrameFinding Rule → Taken → Option (List ℕ)
 taken_text fallback found Row = Some (row_text found.relative_address found.source)
 taken_text fallback found DebugFrame = Some (debug_frame_text found.relative_address found.source)
+taken_text fallback found Run = Some (run_text found.relative_address found.source)
 taken_text fallback found FramePointer = Some (fallback_text found.relative_address found.source fallback)
 taken_text fallback found Step = None
 taken_text fallback found Call = None
@@ -52,6 +57,7 @@ outside_text start address Call =
 outside_text start address Step = None
 outside_text start address Row = None
 outside_text start address DebugFrame = None
+outside_text start address Run = None
 outside_text start address FramePointer = None
 
 -- the rules of an architecture as text, the fallback rule, and the rule of a function's start
@@ -83,10 +89,10 @@ module _ {Rule : Type 0} (texts : Texts Rule) where
 -- the same on both architectures
 abbrev pub IsNoteX86_64 : List ModuleView → Memory → FrameLocation → RegistersX86_64 → Result FoundBy BacktraceEnd → List ℕ
     → Type 0
-IsNoteX86_64 = let explaining = explaining_x86_64 with_allocation in
+IsNoteX86_64 = let explaining = explaining_x86_64 without_allocation in
     IsNoteOf (record { text = explaining.text; fallback = explaining.fallback; start = x86_64_rule.JustReturn }) explaining
 
 abbrev pub IsNoteAarch64 : List ModuleView → Memory → FrameLocation → RegistersAarch64 → Result FoundBy BacktraceEnd
     → List ℕ → Type 0
-IsNoteAarch64 = let explaining = explaining_aarch64 with_allocation in
+IsNoteAarch64 = let explaining = explaining_aarch64 without_allocation in
     IsNoteOf (record { text = explaining.text; fallback = explaining.fallback; start = aarch64_rule.NoOp }) explaining

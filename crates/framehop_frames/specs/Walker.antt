@@ -1,5 +1,5 @@
 -- How the stacks of a machine are walked.
-use Rattle.std.specs.Prelude.{ℕ, Bool, List, Option, None}
+use Rattle.std.specs.Prelude.{ℕ, Bool, List, Option}
 use Rattle.framehop_core.specs.CodeAddress.{FrameLocation, at_instruction_pointer}
 use Rattle.framehop_core.specs.Memory.{Memory}
 use Rattle.framehop_core.specs.Outcome.{Outcome}
@@ -9,10 +9,11 @@ use Rattle.framehop.specs.Aarch64.{aarch64, aarch64_readers}
 use Rattle.framehop.specs.Fresh.{step}
 use Rattle.framehop_cfi.specs.declared.storage.StorageLimits.{StorageLimits}
 use Rattle.framehop.specs.Modules.{ModuleView, UnwindData}
-use Rattle.framehop.specs.Policy.{with_allocation}
+use Rattle.framehop.specs.Policy.{without_allocation}
 use Rattle.framehop.specs.X86_64.{x86_64, x86_64_readers}
 use Rattle.framehop_backtrace.specs.Backtrace.{Backtrace, FrameView, Stack, backtrace_of}
 use Rattle.framehop_backtrace.specs.Code.{Code}
+use Rattle.framehop_backtrace.specs.Covers.{is_covered}
 use Rattle.framehop_backtrace.specs.Info.{is_by_info}
 use Rattle.framehop_backtrace.specs.Machine.{Machine, machine_x86_64, machine_aarch64, all_columns}
 use Rattle.framehop_backtrace.specs.Rows.{Finding, finding_in, rows_of}
@@ -31,35 +32,40 @@ pub record Walker (Regs : Type 0) : Type 0 where
   pub rows : List ModuleView → FrameLocation → Finding
   pub columns : ℕ → Regs → List (Option ℕ)
 
+-- Rows of stacks take no memory while they are made: of 192 register rules, and 3 remembered rows.
+abbrev pub row_limits : Option StorageLimits
+row_limits = without_allocation.rows
+
 -- all registers of x86_64, and those of aarch64 that a step of the library takes
 abbrev pub x86_64_walker : Walker RegistersX86_64
 x86_64_walker = record {
   machine = machine_x86_64;
-  step = step (x86_64 with_allocation);
+  step = step (x86_64 without_allocation);
   is_by_info = λ modules location regs memory. is_by_info x86_64_readers regs memory modules location;
   row_in = finding_in x86_64_readers.compact;
-  rows = rows_of x86_64_readers.compact None;
+  rows = rows_of x86_64_readers.compact row_limits;
   columns = λ pc regs. all_columns regs;
 }
 
 abbrev pub aarch64_walker : Walker RegistersAarch64
 aarch64_walker = record {
   machine = machine_aarch64;
-  step = step (aarch64 with_allocation);
+  step = step (aarch64 without_allocation);
   is_by_info = λ modules location regs memory. is_by_info aarch64_readers regs memory modules location;
   row_in = finding_in aarch64_readers.compact;
-  rows = rows_of aarch64_readers.compact None;
+  rows = rows_of aarch64_readers.compact row_limits;
   columns = machine_aarch64.columns;
 }
 
 module _ {Regs : Type 0} (walker : Walker Regs) where
-  -- a stack by the modules of its process, its rows, its memory and its code
+  -- a stack by the modules of its process, its rows, its memory and its code: the modules tell which functions are covered
   abbrev pub stack_in : List ModuleView → (FrameLocation → Finding) → Memory → Code → Stack Regs
   stack_in modules rows memory code = record {
     machine = walker.machine;
     step = walker.step modules;
     is_by_info = walker.is_by_info modules;
     rows = rows;
+    covers = is_covered modules;
     memory = memory;
     code = code;
   }

@@ -46,16 +46,16 @@ fn note_walked<U: Steps, M: Words>(
 ) -> Result<(), AllocError>
     ensures noted { OnOk result (length notes.new.items ≡ length notes.old.items + length stack.now.frames.items + 1) }
     ensures notes { OnOk result ((added : List (List ℕ)) × AreFrameNotes (U.is_note (U.unwinder_view unwinder.now).modules (M.memory words.now))
-        stack.now.end (map noted_frame stack.now.frames.items) added
+        stack.now.step_end (map noted_frame stack.now.frames.items) added
         × (notes.new.items ≡ notes.old.items ++ (added ++ end_note stack.now.end ∷ []))) }
 {
-    let end = stack.end;
-    note_frames(alloc, unwinder, words, stack.frames.as_slice(), end, notes)?;
-    notes.push(end_note(alloc, end)?)?;
+    let frames = stack.frames.as_slice();
+    note_frames(alloc, unwinder, words, frames, stack.step_end, notes)?;
+    notes.push(end_note(alloc, stack.end)?)?;
     Ok(())
 }
 
-/// Notes where the caller of each frame comes from, and how a walk ended at the last.
+/// Notes where the caller of each frame comes from, and how the step from the last ended.
 fn note_frames<U: Steps, M: Words>(
     alloc: Global,
     unwinder: &U,

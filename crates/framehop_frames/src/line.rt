@@ -2,14 +2,18 @@
 //!
 //! A frame is named by the nearest symbol at or before its address, as debuggers do, and otherwise by its place in
 //! the file.
-ghost use Rattle.std.specs.Prelude.{◌≡◌, ◌<◌, ◌++◌, ◌∷◌, [], map, OnOk, IfOk, codes, string_bytes, true, if◌then◌else◌};
+ghost use Rattle.std.specs.Prelude.{◌≡◌, ◌<◌, ◌++◌, ◌∷◌, [], map, OnOk, IfOk, codes, string_bytes, true, ◌||◌, if◌then◌else◌};
 ghost use Rattle.std.specs.List.{flat_map, list_any};
+ghost use Rattle.framehop_explain.specs.Note.{has_c1_after};
 ghost use Rattle.framehop_processes.specs.Mappings.{IsInOrder};
 ghost use Rattle.framehop_symbols.specs.Place.{place_view};
 ghost use Rattle.framehop_frames.specs.Stack.{shown_frame};
-ghost use Rattle.framehop_frames.specs.Line.{is_text, hex_digit, is_changed, is_escaped, printed_byte, printed, plain, base_name, hexadecimal, label_of, unnamed_text, refusal_name, end_name, is_sure_by, part_of, mark_of_part, end_text, mark, mark_of, frames_text, frame_label, line_of, refused_line, described, found_text, trampoline_text, looked_up, frame_line, last_line, block_of, time_text, head_of};
+ghost use Rattle.framehop_frames.specs.Unseen.{has_unseen_after};
+ghost use Rattle.framehop_frames.specs.Line.{is_text, hex_digit, is_changed, is_escaped, printed_byte, printed, plain, base_name, hexadecimal, label_of, unnamed_text, refusal_name, end_name, is_sure_by, is_guess, has_guess, part_of, mark_of_part, address_of_end, end_text, mark, mark_of, frames_text, frame_label, line_of, refused_line, described, found_text, trampoline_text, frame_line, last_line, block_of, time_text, head_of};
 
+use crate::place::frame_place;
 use crate::stack::{Stack, StackFrame};
+use crate::unseen::has_unseen;
 use framehop::Error;
 use framehop_backtrace::{BacktraceEnd, FoundBy};
 use framehop_bytes::bytes::front;
@@ -81,7 +85,30 @@ fn is_sure(found: FoundBy) -> bool
 {
     match found {
         FoundBy::First | FoundBy::Cfi | FoundBy::Signal => true,
-        FoundBy::FramePointer | FoundBy::Guess => false,
+        FoundBy::Run | FoundBy::FramePointer | FoundBy::Guess => false,
+    }
+}
+
+/// Returns whether one of frames was found by a guess.
+pub fn has_guess<R: Copy>(frames: &[StackFrame<R>]) -> bool
+    ensures { result ≡ has_guess (map shown_frame frames.now) }
+{
+    for frame in frames {
+        if is_guess(frame) {
+            return true;
+        }
+    }
+    false
+}
+
+/// Returns whether a frame is a guess.
+fn is_guess<R: Copy>(frame: &StackFrame<R>) -> bool
+    ensures { result ≡ is_guess (shown_frame frame.now) }
+{
+    match frame.found {
+        FoundBy::Guess => true,
+        FoundBy::First | FoundBy::Cfi | FoundBy::Signal | FoundBy::Run | FoundBy::FramePointer =>
+            false,
     }
 }
 
@@ -270,7 +297,7 @@ pub(crate) fn push_frame_line<R: Copy>(
     let text = format!(in alloc; "{address:x} ")?;
     block.extend_from_slice(text.as_bytes())?;
     push_trampoline(block, frame.is_trampoline)?;
-    let place = place_of(files, mappings, looked_up(frame));
+    let place = frame_place(files, mappings, frame);
     push_place(alloc, block, place)?;
     block.extend_from_slice(found_text(frame.found).as_bytes())?;
     block.push(b'\n')?;
@@ -285,17 +312,6 @@ fn push_trampoline(block: &mut Vec<u8>, is_trampoline: bool) -> Result<(), Alloc
         block.extend_from_slice(b"<signal handler called> ")?;
     }
     Ok(())
-}
-
-/// Returns the address (AVMA) that is looked up for a frame.
-fn looked_up<R: Copy>(frame: &StackFrame<R>) -> u64
-    ensures { result ≡ looked_up (shown_frame frame.now) }
-{
-    if frame.is_trampoline {
-        frame.address.address()
-    } else {
-        frame.address.address_for_lookup()
-    }
 }
 
 /// Appends where a place is.
@@ -351,21 +367,33 @@ fn found_text(found: FoundBy) -> &'static str
         FoundBy::First => "",
         FoundBy::Cfi => " [cfi]",
         FoundBy::Signal => " [signal]",
+        FoundBy::Run => " [code]",
         FoundBy::FramePointer => " [frame-pointer]",
         FoundBy::Guess => " [guess]",
     }
 }
 
-/// Returns what the end of a walk is called, with the address that lies in no code.
+/// Returns what the end of a walk is called, with its address, if it has one.
 pub(crate) fn end_text(alloc: Global, end: BacktraceEnd) -> Result<Vec<u8>, AllocError>
     ensures { IfOk result (λ text. text.items ≡ end_text end) }
 {
     let mut text = Vec::from_slice(alloc, end_name(end).as_bytes())?;
-    if let BacktraceEnd::NotCode(address) = end {
+    if let Some(address) = address_of_end(end) {
         let address = format!(in alloc; " {address:x}")?;
         text.extend_from_slice(address.as_bytes())?;
     }
     Ok(text)
+}
+
+/// Returns the address (AVMA) at which a walk ended: that of a word which can't be read, or the one that lies in no code.
+pub fn address_of_end(end: BacktraceEnd) -> Option<u64>
+    ensures { result ≡ address_of_end end }
+{
+    match end {
+        BacktraceEnd::Refused(Error::CouldNotReadStack(address)) | BacktraceEnd::NotCode(address) =>
+            Some(address),
+        _ => None,
+    }
 }
 
 /// Returns what the end of a walk is called.
@@ -392,7 +420,7 @@ fn refusal_name(error: Error) -> &'static str
     ensures { result.now ≡ refusal_name error }
 {
     match error {
-        Error::CouldNotReadStack(_) => "could-not-read-stack",
+        Error::CouldNotReadStack(_) => "cannot-access-memory",
         Error::FramepointerUnwindingMovedBackwards => "moved-backwards",
         Error::DidNotAdvance => "did-not-advance",
         Error::IntegerOverflow => "integer-overflow",
@@ -441,7 +469,7 @@ pub fn block_head(
 }
 
 /// Appends a name as it is printed: a `;` becomes a colon, and a control character `\xNN`; in a name that is no UTF-8, or
-/// has a control character of C1, so does each byte beyond ASCII. Of a name of more than 2,048 bytes the rest is `...`.
+/// has a control character of C1 or a character that is not seen, so does each byte beyond ASCII. Of a name of more than 2,048 bytes the rest is `...`.
 #[tactic(auto, unfolding(crate::specs::Line::plain))]
 pub fn push_name(line: &mut Vec<u8>, name: &[u8]) -> Result<(), AllocError>
     ensures { OnOk result (line.new.items ≡ line.old.items ++ plain name.now) }
@@ -516,15 +544,22 @@ fn hex_digit(number: u8) -> u8
     }
 }
 
-/// Returns whether a name is UTF-8 without control characters of C1.
+/// Returns whether a name is UTF-8 without control characters of C1 and without characters that are not seen.
 #[tactic(auto, unfolding(crate::specs::Line::is_text))]
 fn is_text(name: &[u8]) -> bool
     ensures { result ≡ is_text name.now }
 {
     match std::str::from_utf8(name) {
-        Ok(_) => !has_c1(name),
+        Ok(_) => !has_unprinted(name),
         Err(_) => false,
     }
+}
+
+/// Returns whether UTF-8 has a control character of C1, or a character that is not seen.
+fn has_unprinted(name: &[u8]) -> bool
+    ensures { result ≡ (has_c1_after 0 name.now || has_unseen_after 0 0 name.now) }
+{
+    has_c1(name) || has_unseen(name)
 }
 
 /// Returns the time of a sample with which the head of its block ends.

@@ -6,11 +6,11 @@ ghost use Rattle.framehop.specs.Modules.{ModuleView, UnwinderView};
 ghost use Rattle.framehop_backtrace.specs.Rows.{finding_of};
 ghost use Rattle.framehop_backtrace.specs.declared.frame.BacktraceEnd.{BacktraceEnd};
 ghost use Rattle.framehop_backtrace.specs.declared.frame.FoundBy.{FoundBy};
-ghost use Rattle.framehop_frames.specs.Walker.{Walker};
+ghost use Rattle.framehop_frames.specs.Walker.{Walker, row_limits};
 
 use crate::note::frame_note;
 use framehop::aarch64::{CacheAarch64, UnwindRegsAarch64, UnwinderAarch64};
-use framehop::cache::MayAllocateDuringUnwind;
+use framehop::cache::MustNotAllocateDuringUnwind;
 use framehop::section::SectionBytes;
 use framehop::unwind_by_data::Lookup;
 use framehop::walk::Words;
@@ -93,10 +93,10 @@ pub trait Steps: ProcessUnwinder + BacktraceUnwinder + Rows {
 
     ghost info_by_modules: { (unwinder : Self) → Self.is_by_info unwinder ≡ walker.is_by_info (Self.unwinder_view unwinder).modules };
 
-    ghost rows_by_modules: { (unwinder : Self) → Self.rows unwinder None ≡ walker.rows (Self.unwinder_view unwinder).modules };
+    ghost rows_by_modules: { (unwinder : Self) → Self.rows unwinder row_limits ≡ walker.rows (Self.unwinder_view unwinder).modules };
 }
 
-impl<D: SectionBytes + Drop> Steps for UnwinderX86_64<D, MayAllocateDuringUnwind> {
+impl<D: SectionBytes + Drop> Steps for UnwinderX86_64<D, MustNotAllocateDuringUnwind> {
     ghost use Rattle.std.specs.Prelude.{refl};
     ghost use Rattle.framehop_frames.specs.TakenText.{IsNoteX86_64};
     ghost use Rattle.framehop_frames.specs.Walker.{x86_64_walker};
@@ -113,8 +113,8 @@ impl<D: SectionBytes + Drop> Steps for UnwinderX86_64<D, MayAllocateDuringUnwind
 
     ghost rows_by_modules = { λ unwinder. refl };
 
-    fn new_cache(alloc: Global) -> Result<CacheX86_64<MayAllocateDuringUnwind>, AllocError> {
-        CacheX86_64::new(alloc)
+    fn new_cache(alloc: Global) -> Result<CacheX86_64<MustNotAllocateDuringUnwind>, AllocError> {
+        CacheX86_64::new_in(alloc)
     }
 
     fn first_columns(start: &Start<UnwindRegsX86_64>) -> RegisterFile {
@@ -141,7 +141,7 @@ impl<D: SectionBytes + Drop> Steps for UnwinderX86_64<D, MayAllocateDuringUnwind
     }
 }
 
-impl<D: SectionBytes + Drop> Steps for UnwinderAarch64<D, MayAllocateDuringUnwind> {
+impl<D: SectionBytes + Drop> Steps for UnwinderAarch64<D, MustNotAllocateDuringUnwind> {
     ghost use Rattle.std.specs.Prelude.{refl};
     ghost use Rattle.framehop_frames.specs.TakenText.{IsNoteAarch64};
     ghost use Rattle.framehop_frames.specs.Walker.{aarch64_walker};
@@ -158,8 +158,8 @@ impl<D: SectionBytes + Drop> Steps for UnwinderAarch64<D, MayAllocateDuringUnwin
 
     ghost rows_by_modules = { λ unwinder. refl };
 
-    fn new_cache(alloc: Global) -> Result<CacheAarch64<MayAllocateDuringUnwind>, AllocError> {
-        CacheAarch64::new(alloc)
+    fn new_cache(alloc: Global) -> Result<CacheAarch64<MustNotAllocateDuringUnwind>, AllocError> {
+        CacheAarch64::new_in(alloc)
     }
 
     fn first_columns(start: &Start<UnwindRegsAarch64>) -> RegisterFile {

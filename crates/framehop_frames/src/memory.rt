@@ -1,6 +1,7 @@
 //! The memory of a process with the code of the files that it maps.
 ghost use Rattle.std.specs.Prelude.{◌≡◌, ℕ, List, Bool, Option, option_map};
-ghost use Rattle.framehop_frames.specs.Code.{bytes_from, bytes_at};
+ghost use Rattle.framehop_symbols.specs.Place.{place_view};
+ghost use Rattle.framehop_frames.specs.Code.{bytes_from, bytes_at, start_in};
 
 use framehop::walk::{StackBytes, Words};
 use framehop_backtrace::CodeMemory;
@@ -10,6 +11,7 @@ use framehop_processes::{Process, ProcessUnwinder};
 use framehop_signal::trampoline::is_trampoline;
 use framehop_symbols::code::{code_at, is_mapped};
 use framehop_symbols::files::Files;
+use framehop_symbols::place::{Place, place_of};
 
 /// Memory of a process as an input has it: the stack of a sample, or what a dump has.
 pub trait KnownMemory: Words {
@@ -77,6 +79,28 @@ impl<K: KnownMemory, U: ProcessUnwinder> CodeMemory for MappedMemory<'_, '_, K, 
             Some(code) => is_trampoline(code),
             None => false,
         }
+    }
+
+    fn function_start(&self, address: u64) -> Option<u64> {
+        start_in(
+            address,
+            place_of(self.files, self.process.mappings(), address),
+        )
+    }
+}
+
+/// Returns where the function begins (AVMA) that has an address at a place, if a symbol or an FDE tells that.
+fn start_in(address: u64, place: Place<'_>) -> Option<u64>
+    ensures { result ≡ start_in address (place_view place.entry) }
+{
+    match place {
+        Place::Function { offset, .. } => Some(address.saturating_sub(offset)),
+        Place::Unnamed {
+            start,
+            address: svma,
+            ..
+        } => Some(address.saturating_sub(svma.saturating_sub(start))),
+        Place::File { .. } | Place::Unmapped => None,
     }
 }
 

@@ -2,8 +2,8 @@
 ghost use Rattle.std.specs.Prelude.{◌≡◌, option_map, string_bytes, IfOk};
 ghost use Rattle.framehop_core.specs.CodeAddress.{location_of, address_of};
 ghost use Rattle.framehop_explain.specs.Found.{explaining_by, finding_of};
-ghost use Rattle.framehop_frames.specs.Taken.{is_by_row, is_by_frame_pointer, data_of, taken_by, taken_outside};
-ghost use Rattle.framehop_frames.specs.TakenText.{row_text, debug_frame_text, fallback_text, taken_text, outside_text, taken_for, line_for, IsNoteOf};
+ghost use Rattle.framehop_frames.specs.Taken.{is_by_row, is_by_run, is_by_frame_pointer, data_of, taken_by, taken_outside};
+ghost use Rattle.framehop_frames.specs.TakenText.{row_text, debug_frame_text, run_text, fallback_text, taken_text, outside_text, taken_for, line_for, IsNoteOf};
 
 use framehop::unwinder::UnwinderInternal;
 use framehop::walk::Words;
@@ -29,6 +29,8 @@ pub enum Taken {
     DebugFrame,
     /// The stack as it is right after a call, since a call led to no code.
     Call,
+    /// The return to which the code of the frame's function leads, where no unwind data covers it.
+    Run,
     /// The frame pointer, since what a function's start would return to lies after no call.
     FramePointer,
 }
@@ -128,6 +130,7 @@ fn taken_text<D: SectionBytes, R: DescribeRule>(
     match taken_by(data_of(source, finding.told), caller) {
         Taken::Row => Ok(Some(row_text(alloc, address, source)?)),
         Taken::DebugFrame => Ok(Some(debug_frame_text(alloc, address, source)?)),
+        Taken::Run => Ok(Some(run_text(alloc, address, source)?)),
         Taken::FramePointer => Ok(Some(fallback_text::<R>(alloc, address, source)?)),
         Taken::Step | Taken::Call => Ok(None),
     }
@@ -147,6 +150,13 @@ fn debug_frame_text(alloc: Global, address: u32, source: Source) -> Result<Strin
     Ok(format!(in alloc; "0x{address:x}: {source}; row of .debug_frame: over all registers")?)
 }
 
+/// Returns the text of code that was run forward to its return.
+fn run_text(alloc: Global, address: u32, source: Source) -> Result<String, AllocError>
+    ensures { IfOk result (λ text. string_bytes text ≡ run_text address source) }
+{
+    Ok(format!(in alloc; "0x{address:x}: {source}: by its code, up to its return")?)
+}
+
 /// Returns the text of a frame pointer that is followed after a guess.
 fn fallback_text<R: DescribeRule>(
     alloc: Global,
@@ -156,7 +166,7 @@ fn fallback_text<R: DescribeRule>(
     ensures { IfOk result (λ text. string_bytes text ≡ fallback_text address source (R.rule_text R.fallback)) }
 {
     let rule = Described(R::fallback_rule());
-    Ok(format!(in alloc; "0x{address:x}: {source}: no call leads there: fallback: {rule}")?)
+    Ok(format!(in alloc; "0x{address:x}: {source}: no likelier call: fallback: {rule}")?)
 }
 
 /// Returns what a walk took for the caller of a frame in no module, or `None` for the library's step.
@@ -187,8 +197,10 @@ fn taken_by(data: Data, caller: Result<FoundBy, BacktraceEnd>) -> Taken
         Data::Row | Data::Info => Taken::Step,
         Data::RefusedRow => Taken::Row,
         Data::Start if is_by_row(caller) => Taken::DebugFrame,
+        Data::Start if is_by_run(caller) => Taken::Run,
         Data::Start if is_by_frame_pointer(caller) => Taken::FramePointer,
         Data::Nothing if is_by_row(caller) => Taken::DebugFrame,
+        Data::Nothing if is_by_run(caller) => Taken::Run,
         Data::Start | Data::Nothing => Taken::Step,
     }
 }
@@ -215,6 +227,16 @@ fn is_by_row(caller: Result<FoundBy, BacktraceEnd>) -> bool
             | BacktraceEnd::ReturnAddressUnknown
             | BacktraceEnd::DidNotAdvance,
         ) => true,
+        _ => false,
+    }
+}
+
+/// Returns whether a caller was found by the code.
+fn is_by_run(caller: Result<FoundBy, BacktraceEnd>) -> bool
+    ensures { result ≡ is_by_run caller }
+{
+    match caller {
+        Ok(FoundBy::Run) => true,
         _ => false,
     }
 }

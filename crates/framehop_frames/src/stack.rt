@@ -19,5 +19,8 @@ pub struct StackFrame<R: Copy> {
 #[derive(Drop)]
 pub struct Stack<R: Copy> {
     pub frames: Vec<StackFrame<R>>,
+    /// How the walk ended: at a word that can't be read, where this is why.
     pub end: BacktraceEnd,
+    /// How the step from the last frame ended, which the frame's note explains.
+    pub step_end: BacktraceEnd,
 }

@@ -55,14 +55,16 @@ out_of_memory writes refusal drawn samples error is = rw is tt
 
 module _ (writes frames : Bool) (counts : Counts) (samples : ℕ) (counted : AreCounted frames samples counts) (line : List ℕ) (error : StacksError) where
   pub sample_ends : (error ≡ OutOfMemory)
-      ⊎ ((error ≡ TooManySamples) × ((2 ^ 64 ≤ count_in counts.ends line + 1) ⊎ (2 ^ 64 ≤ counts.samples + 1) ⊎ (2 ^ 64 ≤ counts.unsure + 1) ⊎ (2 ^ 64 ≤ counts.cut + 1)))
+      ⊎ ((error ≡ TooManySamples) × ((2 ^ 64 ≤ count_in counts.ends line + 1) ⊎ (2 ^ 64 ≤ counts.samples + 1) ⊎ (2 ^ 64 ≤ counts.unsure + 1) ⊎ (2 ^ 64 ≤ counts.guessed + 1) ⊎ (2 ^ 64 ≤ counts.cut + 1) ⊎ (2 ^ 64 ≤ counts.in_vdso + 1)))
       → MayEnd writes None 0 (samples + 1) error
   sample_ends (inl is) = out_of_memory writes None 0 (samples + 1) error is
   sample_ends (inr (is, inl large)) =
       too_many writes (samples + 1) error is (omega (arith, large, within_total counts.ends line, counted.ends))
   sample_ends (inr (is, inr (inl large))) = too_many writes (samples + 1) error is (omega (arith, large, counted.samples))
   sample_ends (inr (is, inr (inr (inl large)))) = too_many writes (samples + 1) error is (omega (arith, large, counted.unsure))
-  sample_ends (inr (is, inr (inr (inr large)))) = too_many writes (samples + 1) error is (omega (arith, large, counted.cut))
+  sample_ends (inr (is, inr (inr (inr (inl large))))) = too_many writes (samples + 1) error is (omega (arith, large, counted.guessed))
+  sample_ends (inr (is, inr (inr (inr (inr (inl large)))))) = too_many writes (samples + 1) error is (omega (arith, large, counted.cut))
+  sample_ends (inr (is, inr (inr (inr (inr (inr large)))))) = too_many writes (samples + 1) error is (omega (arith, large, counted.in_vdso))
 
 pub stack_ends : (writes : Bool) (counts : Counts) (line : List ℕ) (error : StacksError)
     → (error ≡ OutOfMemory) ⊎ ((error ≡ TooManySamples) × (2 ^ 64 ≤ count_in counts.stacks line + 1))

@@ -8,6 +8,8 @@ mod EventLemmas
 mod LinesLemmas
 mod KallsymsLemmas
 mod EndedLemmas
+mod JsonLemmas
+mod SampledLemmas
 mod SoFarLemmas
 mod NumberedLemmas
 mod PrintedLemmas

@@ -25,7 +25,7 @@ use Rattle.framehop_perf_stacks.specs.Ended.{drawn_in, naming_refusal, refusal_i
 use Rattle.framehop_frames.specs.Line.{head_of}
 use Rattle.framehop_perf_stacks.specs.Names.{Named, named_by, named_as_parent, named_after}
 use Rattle.framehop_perf_stacks.specs.Processes.{Mapped, after}
-use Rattle.framehop_perf_stacks.specs.Samples.{State, mapped_by, IsUserStack, IsToldAt, Told, thread_name, is_full_user, stack_told}
+use Rattle.framehop_perf_stacks.specs.Samples.{State, mapped_by, IsUserStack, IsToldAt, Told, thread_name, is_full_user, stack_told, thread_by}
 use Rattle.framehop_perf_stacks.specs.declared.changes.Change.{Change}
 use Rattle.framehop_perf_stacks.specs.declared.changes.Change.TheVariants.{Map, Begin, Fork}
 use Rattle.framehop_symbols.specs.Files.{object_in}
@@ -112,8 +112,8 @@ module _ {Regs : Type 0} (module_of : Mapping → ModuleView) (walker : Walker R
           notes,
           subst P (mapped pid) told.1.1,
           told.1.2
-              ∙ ap (λ name. stack_told options files (thread_name options.by_thread name pid tid) (head_of name pid tid sample.0.time ++ kernel_lines options sample.0.chain) (kernel_text options sample.0.chain) (state.mapped pid) (is_full_user sample.0.user) stack notes) (named tid)
-              ∙ ap (λ mappings. stack_told options files (thread_name options.by_thread (other.named tid) pid tid) (head_of (other.named tid) pid tid sample.0.time ++ kernel_lines options sample.0.chain) (kernel_text options sample.0.chain) mappings (is_full_user sample.0.user) stack notes) (mapped pid),
+              ∙ ap (λ name. stack_told options files (thread_name options.by_thread name pid tid) (head_of name pid tid sample.0.time ++ kernel_lines options sample.0.chain) (thread_by options name pid tid sample.0.time) (kernel_text options sample.0.chain) (state.mapped pid) (is_full_user sample.0.user) stack notes) (named tid)
+              ∙ ap (λ mappings. stack_told options files (thread_name options.by_thread (other.named tid) pid tid) (head_of (other.named tid) pid tid sample.0.time ++ kernel_lines options sample.0.chain) (thread_by options (other.named tid) pid tid sample.0.time) (kernel_text options sample.0.chain) mappings (is_full_user sample.0.user) stack notes) (mapped pid),
         ),
       )
   text-same (Err refusal) text told = told

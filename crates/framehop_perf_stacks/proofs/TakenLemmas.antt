@@ -12,7 +12,7 @@ use Rattle.framehop_folded.specs.declared.folded.Folded.{Folded}
 use Rattle.framehop_perf_stacks.specs.Counts.{CountsOneMore, HasSameSamples}
 use Rattle.framehop_perf_stacks.specs.declared.counts.Counts.{Counts}
 use Rattle.framehop_recording.specs.Records.{RecordView}
-use Rattle.framehop_perf_stacks.specs.Samples.{Told, Each, occurrences, more, IsTextTaken, AreTextsTaken, IsTaken, AreTaken, HasSamplesMore, AreSummed, texts_of, shown_of, ends_of, unsure_among, cut_among, lost_over, IsMade}
+use Rattle.framehop_perf_stacks.specs.Samples.{Told, Each, occurrences, more, IsTextTaken, AreTextsTaken, IsTaken, AreTaken, HasSamplesMore, AreSummed, texts_of, shown_of, ends_of, unsure_among, guessed_among, in_vdso_among, cut_among, lost_over, IsMade}
 
 -- one more of each list
 pub Each-more : {A B : Type 0} (R : A → B → Type 0) (xs : List A) (ys : List B) (a : A) (b : B) → Each R xs ys → R a b
@@ -87,13 +87,19 @@ pub AreTaken-more : (frames : Bool) (samples : List Told) (told : Told) (old mid
 AreTaken-more frames samples told old mid new first before after taken one =
     let unsure : unsure_among (samples ++ told ∷ []) ≡ unsure_among samples + cond (not told.is_sure) 1 0 =
     sum_by_push (λ (t : Told). cond (not t.is_sure) 1 0) samples told in
+    let guessed : guessed_among (samples ++ told ∷ []) ≡ guessed_among samples + cond told.has_guess 1 0 =
+    sum_by_push (λ (t : Told). cond t.has_guess 1 0) samples told in
     let cut : cut_among (samples ++ told ∷ []) ≡ cut_among samples + cond told.is_cut 1 0 =
     sum_by_push (λ (t : Told). cond t.is_cut 1 0) samples told in
+    let vdso : in_vdso_among (samples ++ told ∷ []) ≡ in_vdso_among samples + cond told.in_vdso 1 0 =
+    sum_by_push (λ (t : Told). cond t.in_vdso 1 0) samples told in
     let size : length (samples ++ told ∷ []) ≡ length samples + 1 = length-append samples (told ∷ []) in (
       record {
         count = omega (arith, one.0.samples, taken.0.count, size);
         unsure = omega (arith, one.0.unsure, taken.0.unsure, unsure, not-sure told.is_sure);
+        guessed = omega (arith, one.0.guessed, taken.0.guessed, guessed);
         cut = omega (arith, one.0.cut, taken.0.cut, cut);
+        in_vdso = omega (arith, one.0.in_vdso, taken.0.in_vdso, vdso);
         ends = λ end. counted-more (ends_of samples) told.end old.ends mid.ends new.ends taken.0.ends one.0.ends end
             ∙ ap (λ ends. more (entry_of old.ends end) (occurrences end ends)) (sym (map_push (λ (t : Told). t.end) samples told));
       },
@@ -103,7 +109,7 @@ AreTaken-more frames samples told old mid new first before after taken one =
 -- nothing that is taken
 pub AreTaken-none : (frames : Bool) (counts : Counts) (bytes : Option (List ℕ)) → AreTaken frames [] counts counts bytes bytes
 AreTaken-none frames counts bytes =
-    (record { count = omega arith; unsure = omega arith; cut = omega arith; ends = λ end. refl }, texts-none frames counts.stacks bytes)
+    (record { count = omega arith; unsure = omega arith; guessed = omega arith; cut = omega arith; in_vdso = omega arith; ends = λ end. refl }, texts-none frames counts.stacks bytes)
 
 -- what is taken where another record is passed over
 pub AreTaken-same : (frames : Bool) (samples : List Told) (old mid new : Counts) (first before after : Option (List ℕ))
@@ -113,7 +119,9 @@ AreTaken-same frames samples old mid new first before after taken same kept = (
   record {
     count = same.samples ∙ taken.0.count;
     unsure = same.unsure ∙ taken.0.unsure;
+    guessed = same.guessed ∙ taken.0.guessed;
     cut = same.cut ∙ taken.0.cut;
+    in_vdso = same.in_vdso ∙ taken.0.in_vdso;
     ends = λ end. ap (λ folded. entry_of folded end) same.ends ∙ taken.0.ends end;
   },
   subst (λ folded. AreTextsTaken frames samples old.stacks folded first after) (sym same.stacks)
@@ -122,12 +130,14 @@ AreTaken-same frames samples old mid new first before after taken same kept = (
 
 -- the counts of all samples, from none on
 pub summed : (samples : List Told) (records : List RecordView) (old new : Counts) → HasSamplesMore samples old new
-    → old.samples ≡ 0 → old.unsure ≡ 0 → old.cut ≡ 0 → ((end : List ℕ) → entry_of old.ends end ≡ None) → new.lost ≡ lost_over records 0
+    → old.samples ≡ 0 → old.unsure ≡ 0 → old.guessed ≡ 0 → old.cut ≡ 0 → old.in_vdso ≡ 0 → ((end : List ℕ) → entry_of old.ends end ≡ None) → new.lost ≡ lost_over records 0
     → IsInOrderOfBytes new.ends → AreSummed samples records new
-summed samples records old new more-of none sure uncut endless lost ordered = record {
+summed samples records old new more-of none sure unguessed uncut outside endless lost ordered = record {
   count = omega (arith, more-of.count, none);
   unsure = omega (arith, more-of.unsure, sure);
+  guessed = omega (arith, more-of.guessed, unguessed);
   cut = omega (arith, more-of.cut, uncut);
+  in_vdso = omega (arith, more-of.in_vdso, outside);
   lost = lost;
   ends = λ end. more-of.ends end ∙ ap (λ entry. more entry (occurrences end (ends_of samples))) (endless end);
   ordered = ordered;

@@ -7,13 +7,16 @@ pub mod Processes
 pub mod Ended
 pub mod Start
 pub mod Counts
+pub mod Vdso
 pub mod Run
 pub mod Recording
+pub mod Sampled
 pub mod Bodies
 pub mod Kept
 pub mod Chain
 pub mod Kallsyms
 pub mod PerfMap
+pub mod Json
 pub mod Samples
 pub mod Window
 pub mod Choice

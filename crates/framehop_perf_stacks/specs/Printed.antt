@@ -1,15 +1,18 @@
 -- What is made of a recording.
 use Rattle.std.specs.Prelude.{◌≡◌, ℕ, ⊤, Bool, true, false, List, map, count_by, Option, None}
 use Rattle.std.specs.Io.KnownBytes.{Appends}
+use Rattle.framehop_folded.specs.Folded.{entries_of}
 use Rattle.framehop_folded.specs.declared.folded.Folded.{Folded}
 use Rattle.framehop_recording.specs.Attributes.{AttributeView, attribute_view}
 use Rattle.framehop_recording.specs.Records.{RecordView}
 use Rattle.framehop_frames.specs.TakenText.{IsNoteX86_64, IsNoteAarch64}
 use Rattle.framehop_frames.specs.Walker.{x86_64_walker, aarch64_walker}
+use Rattle.framehop_frames.specs.declared.json_files.FilePaths.{FilePaths}
 use Rattle.framehop_symbols.specs.Files.{module_at}
 use Rattle.framehop_recording.specs.declared.error.RecordingError.{RecordingError}
 use Rattle.framehop_perf_stacks.specs.Bodies.{IsCompleted}
 use Rattle.framehop_perf_stacks.specs.Ended.{first_refusal, before_refusal, MayEnd}
+use Rattle.framehop_perf_stacks.specs.Json.{head_line, counted_lines}
 use Rattle.framehop_perf_stacks.specs.Problems.{AreProblems}
 use Rattle.framehop_perf_stacks.specs.Recording.{are_of_aarch64, records_in}
 use Rattle.framehop_perf_stacks.specs.Run.{is_sample}
@@ -97,3 +100,29 @@ abbrev pub MayEndAt : Recording → Files → StacksError → Type 0
 MayEndAt recording files error =
     let records = records_in recording.records.items in
     MayEnd true (first_refusal records) (drawn_over files records beginning) (count_by is_sample recording.records.items) error
+
+-- the line of a recording's files in JSON, by where they were read
+abbrev pub head_of : Recording → Files → List FilePaths → List ℕ
+head_of recording files paths =
+    head_line (are_of_aarch64 (map attribute_view recording.events.attributes.items)) paths files.list.items
+
+-- What is made of a recording as JSON: a line of its files, the lines of its samples, where each is shown, and then those of
+-- the stacks that were counted. What is said is as of text.
+abbrev pub IsJsonBy : (Folded → Option (List ℕ) → Option (List ℕ) → Option (List ℕ) → Option (List ℕ) → Type 0) → Recording → Files
+    → List FilePaths → Option (List ℕ) → Option (List ℕ) → Option (List ℕ) → Option (List ℕ) → Type 0
+IsJsonBy made recording files paths before after unsaid said =
+    (told : Option (List ℕ)) × AreTold files unsaid told × ((begun : Option (List ℕ)) × Appends before begun (head_of recording files paths)
+    × ((folded : Folded) × ((shown : Option (List ℕ)) × made folded begun shown told said
+    × Appends shown after (counted_lines (entries_of folded)))))
+
+-- of a recording's records with bodies that are given, and, where a record is refused, of those before it
+abbrev pub IsJsonWith : (RecordView → List ℕ → Type 0) → Recording → Files → List FilePaths → Options → Option (List ℕ)
+    → Option (List ℕ) → Option (List ℕ) → Option (List ℕ) → Type 0
+IsJsonWith gives recording files paths options before after unsaid said =
+    IsJsonBy (IsMadeWith gives recording files options) recording files paths before after unsaid said
+
+abbrev pub IsJsonUntilWith : (RecordView → List ℕ → Type 0) → StacksError → Recording → Files → List FilePaths → Options
+    → Option (List ℕ) → Option (List ℕ) → Option (List ℕ) → Option (List ℕ) → Type 0
+IsJsonUntilWith gives (Refused refusal) recording files paths options before after unsaid said =
+    IsJsonBy (IsMadeUntilWith gives (Refused refusal) recording files options) recording files paths before after unsaid said
+IsJsonUntilWith gives error recording files paths options before after unsaid said = ⊤

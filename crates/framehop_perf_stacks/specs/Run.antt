@@ -11,11 +11,14 @@ use Rattle.framehop_perf_stacks.specs.declared.counts.Counts.{Counts}
 abbrev pub folded_of : Bool → ℕ → ℕ
 folded_of frames samples = if frames then 0 else samples
 
--- So many samples were counted: the counts of ends sum to them, and those of stacks, and no more are unsure or cut.
+-- So many samples were counted: the counts of ends sum to them, and those of stacks, and no more are unsure, guessed, cut or in
+-- a vdso.
 pub record AreCounted (frames : Bool) (count : ℕ) (counts : Counts) : Type 0 where
   pub samples : counts.samples ≡ count
   pub unsure : counts.unsure ≤ count
+  pub guessed : counts.guessed ≤ count
   pub cut : counts.cut ≤ count
+  pub in_vdso : counts.in_vdso ≤ count
   pub ends : total_of counts.ends ≡ count
   pub stacks : total_of counts.stacks ≡ folded_of frames count
 

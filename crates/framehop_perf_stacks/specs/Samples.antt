@@ -1,5 +1,5 @@
 -- The samples of a recording one after another, and what is told of each: a block or a folded line.
-use Rattle.std.specs.Prelude.{◌≡◌, ◌<◌, ℕ, zero, suc, ◌+◌, ◌-◌, ◌^◌, min, length, not, unwrap_or, Bool, true, false, ◌&&◌, nat_eq, List, [], ◌∷◌, ◌++◌, codes, decimal, map, count_by, Option, Some, None, Result, Ok, Err, ◌==◌, if◌then◌else◌}
+use Rattle.std.specs.Prelude.{◌≡◌, ◌<◌, ℕ, zero, suc, ◌+◌, ◌-◌, ◌^◌, min, length, not, unwrap_or, Bool, true, false, ◌&&◌, ◌||◌, nat_eq, nat_le, List, [], ◌∷◌, ◌++◌, codes, decimal, map, count_by, Option, Some, None, Result, Ok, Err, ◌==◌, if◌then◌else◌}
 use Rattle.std.specs.BTreeMap.{BTreeMap}
 use Rattle.std.specs.Cmp.Lexicographic.{pointwise}
 use Rattle.std.specs.Io.KnownBytes.{Appends}
@@ -19,16 +19,19 @@ use Rattle.framehop_recording.specs.Sample.{SampleView, UserView, read_chain_vie
 use Rattle.framehop_recording.specs.Tasks.{lost_at}
 use Rattle.framehop_recording.specs.declared.error.RecordingError.{RecordingError}
 use Rattle.framehop_recording.specs.declared.sample.Sample.{Sample}
+use Rattle.serde_json.specs.Data.{Members, array}
+use Rattle.serde_json.specs.View.{items_of}
 use Rattle.framehop_perf_stacks.specs.Bodies.{with_body}
 use Rattle.framehop_perf_stacks.specs.Changes.{change_in}
 use Rattle.framehop_perf_stacks.specs.Chain.{kernel_lines, kernel_text, frames_of_chain}
 use Rattle.framehop_perf_stacks.specs.Counts.{CountsOneMore, HasSampleMore}
 use Rattle.framehop_backtrace.specs.declared.frame.BacktraceEnd.{BacktraceEnd}
-use Rattle.framehop_backtrace.specs.declared.frame.BacktraceEnd.TheVariants.{Root, FramePointerZero, Limit, SignalFrameUnread, CfaUnknown, ReturnAddressUnknown, DidNotAdvance, RegistersUnknown, Refused, NoCaller, NotCode}
+use Rattle.framehop_backtrace.specs.declared.frame.BacktraceEnd.TheVariants.{Root, Refused}
 use Rattle.framehop_core.specs.declared.error.Error.TheVariants.{CouldNotReadStack}
 use Rattle.framehop_backtrace.specs.declared.frame.FoundBy.{FoundBy}
 use Rattle.framehop_frames.specs.Explained.{shown_with}
-use Rattle.framehop_frames.specs.Line.{ShownFrame, head_of, end_name, part_of, line_of, refused_line, frame_label, frame_line, last_line}
+use Rattle.framehop_frames.specs.JsonFrames.{frames_data}
+use Rattle.framehop_frames.specs.Line.{ShownFrame, head_of, address_of_end, end_name, has_guess, part_of, line_of, refused_line, frame_label, frame_line, last_line}
 use Rattle.framehop_backtrace.specs.Code.{Code}
 use Rattle.framehop_frames.specs.Code.{bytes_after, code_of}
 use Rattle.framehop_frames.specs.Notes.{NotedStack, noted_from, AreStackNotes}
@@ -37,10 +40,12 @@ use Rattle.framehop_frames.specs.Stack.{StackView, walked, no_stack, shown_frame
 use Rattle.framehop_frames.specs.declared.stack.Stack.{Stack}
 use Rattle.framehop_frames.specs.Walker.{Walker}
 use Rattle.framehop_perf_stacks.specs.Ended.{drawn_in}
+use Rattle.framehop_perf_stacks.specs.Json.{told_if, time_if, thread_members, stack_members, rest_text, counted_line}
 use Rattle.framehop_perf_stacks.specs.Names.{Named, named_in, named_after}
 use Rattle.framehop_perf_stacks.specs.Processes.{Mapped, mapped_in, after}
 use Rattle.framehop_perf_stacks.specs.Recording.{sample_in}
 use Rattle.framehop_perf_stacks.specs.Run.{sample_refusal}
+use Rattle.framehop_perf_stacks.specs.Vdso.{has_unread_vdso}
 use Rattle.framehop_perf_stacks.specs.declared.changes.Change.{Change}
 use Rattle.framehop_perf_stacks.specs.declared.counts.Counts.{Counts}
 use Rattle.framehop_symbols.specs.declared.files.Files.{Files}
@@ -115,6 +120,11 @@ module _ {Regs : Type 0} (walker : Walker Regs) (limit : ℕ) (files : Files) wh
       (code_in mappings bytes start.sp) start)
   noted_sample mappings modules bytes None = None
 
+-- where the copy of a stack begins: at the stack pointer
+abbrev pub base_of : {Regs : Type 0} → Option (Start Regs) → ℕ
+base_of (Some start) = start.sp
+base_of None = 0
+
 -- the words of a copy of a stack, which begins at the stack pointer
 abbrev pub copied_memory : {Regs : Type 0} → List ℕ → Option (Start Regs) → Memory
 copied_memory bytes (Some start) = memory_of_bytes start.sp bytes
@@ -125,14 +135,14 @@ abbrev pub NotedIf : Bool → (List (List ℕ) → Type 0) → List (List ℕ) �
 NotedIf true are_notes notes = are_notes notes
 NotedIf false are_notes notes = notes ≡ []
 
--- the stack of a sample: of a walk, or of its call chain
+-- the stack of a sample: of a walk, by where the copy of the stack begins, or of its call chain
 pub data SampleStack : Type 0 where
-  of_walk : StackView → SampleStack
+  of_walk : ℕ → StackView → SampleStack
   of_chain : List ShownFrame → SampleStack
 
 -- what stands for a stack that can't be read
 abbrev pub unread_stack : RecordingError → List ShownFrame → SampleStack
-unread_stack refusal [] = of_walk (no_stack (sample_refusal refusal))
+unread_stack refusal [] = of_walk 0 (no_stack (sample_refusal refusal))
 unread_stack refusal (frame ∷ frames) = of_chain (frame ∷ frames)
 
 -- a stack is that of the frames of a chain, if there are some
@@ -155,7 +165,7 @@ module _ {Regs : Type 0} (walker : Walker Regs)
       → SampleStack → List (List ℕ) → Type 0
   IsUserStack mappings modules mask chain (Ok user) stack notes =
       (start : Option (Start Regs)) × starts modules mask user.registers start
-      × (stack ≡ of_walk (sampled_from walker limit files mappings modules user.stack start))
+      × (stack ≡ of_walk (base_of start) (sampled_from walker limit files mappings modules user.stack start))
       × NotedIf explained (AreSampleNotes mappings modules user.stack start) notes
   IsUserStack mappings modules mask chain (Err refusal) stack notes =
       (stack ≡ unread_stack refusal (frames_of_chain refusal chain)) × (notes ≡ [])
@@ -166,7 +176,7 @@ module _ {Regs : Type 0} (walker : Walker Regs)
   IsSampleStack module_of mapped (Ok sample) stack notes =
       IsUserStack (mapped sample.0.pid) (map module_of (mapped sample.0.pid)) sample.1 sample.0.chain sample.0.user stack notes
   IsSampleStack module_of mapped (Err refusal) stack notes =
-      (stack ≡ of_walk (no_stack (sample_refusal refusal))) × (notes ≡ [])
+      (stack ≡ of_walk 0 (no_stack (sample_refusal refusal))) × (notes ≡ [])
 
 -- The name of a thread in a folded stack. Where threads are told apart, its process and itself are after the name, as
 -- `stackcollapse-perf.pl --tid` of FlameGraph has them.
@@ -185,19 +195,32 @@ head_text options name (Some sample) =
     head_of name sample.pid sample.tid sample.time ++ kernel_lines options (read_chain_view sample.chain)
 head_text options name None = codes "[unknown]:\n"
 
+-- Its thread in JSON. Process and thread are told where threads are told apart or each sample is told, and so is the time.
+abbrev pub thread_by : Options → List ℕ → ℕ → ℕ → Option ℕ → Members
+thread_by options name pid tid time =
+    let each = options.frames || options.by_thread in
+    thread_members name (told_if each pid) (told_if each tid) (time_if options.frames time)
+
+abbrev pub thread_told : Options → List ℕ → Option Sample → Members
+thread_told options name (Some sample) = thread_by options name sample.pid sample.tid sample.time
+thread_told options name None = thread_members name None None None
+
 -- what ends a folded stack: the frames of the kernel
 abbrev pub tail_text : Options → Option Sample → List ℕ
 tail_text options (Some sample) = kernel_text options (read_chain_view sample.chain)
 tail_text options None = []
 
--- what is told of a sample: its text, the same as it is shown, with notes where it is to be explained, how its walk ended or
--- why there is none, whether unwind data tells all its frames, and whether it is cut where its copy ends
+-- what is told of a sample: the text by which it is counted, what is shown of it where each sample is, how its walk ended or
+-- why there is none, whether unwind data tells all its frames, whether it is cut where its copy ends, and whether a frame is
+-- in a vdso of which no file was read
 pub record Told : Type 0 where
   pub text : List ℕ
   pub shown : List ℕ
   pub end : List ℕ
   pub is_sure : Bool
+  pub has_guess : Bool
   pub is_cut : Bool
+  pub in_vdso : Bool
 
 -- how the walk of a stack ended, or why there is none
 abbrev pub end_of : StackView → List ℕ
@@ -217,54 +240,87 @@ chain_text false sure files name head mappings frames =
     refused_line name (codes "callchain") ++ line_of sure [] Root (frame_label files mappings) frames
 
 abbrev pub sample_text : Bool → Bool → Files → List ℕ → List ℕ → List Mapping → SampleStack → List ℕ
-sample_text frames sure files name head mappings (of_walk stack) = stack_text frames sure files name head mappings stack
+sample_text frames sure files name head mappings (of_walk base stack) = stack_text frames sure files name head mappings stack
 sample_text frames sure files name head mappings (of_chain chain) = chain_text frames sure files name head mappings chain
 
--- a folded stack with what ends it
-abbrev pub ended_with : Bool → List ℕ → List ℕ → List ℕ
-ended_with true tail text = text
-ended_with false tail text = text ++ tail
-
 abbrev pub sample_end : SampleStack → List ℕ
-sample_end (of_walk stack) = end_of stack
+sample_end (of_walk base stack) = end_of stack
 sample_end (of_chain frames) = codes "callchain"
 
+-- the address at which it ended, if it ended at one
+abbrev pub sample_end_address : SampleStack → Option ℕ
+sample_end_address (of_walk base (walked frames end)) = address_of_end end
+sample_end_address (of_walk base (no_stack why)) = None
+sample_end_address (of_chain frames) = None
+
+abbrev pub sample_frames : SampleStack → List ShownFrame
+sample_frames (of_walk base (walked frames end)) = frames
+sample_frames (of_walk base (no_stack why)) = []
+sample_frames (of_chain frames) = frames
+
+-- its JSON, by the members of its thread, but for its count
+abbrev pub json_text : Files → List Mapping → SampleStack → Members → List ℕ
+json_text files mappings stack who = rest_text (
+    stack_members (sample_end stack) (sample_end_address stack)
+    (array (items_of (frames_data files mappings (sample_frames stack)))) who)
+
+-- what is counted: a folded stack with what ends it, or its JSON (`true`)
+abbrev pub line_by : Bool → Bool → Files → List ℕ → Members → List ℕ → List Mapping → SampleStack → List ℕ
+line_by true sure files name who tail mappings stack = json_text files mappings stack who
+line_by false sure files name who tail mappings stack = sample_text false sure files name [] mappings stack ++ tail
+
+-- what is shown: a block, with notes where it is to be explained, or a line of JSON (`true`)
+abbrev pub shown_by : Bool → Bool → List (List ℕ) → Files → List ℕ → Members → List Mapping → SampleStack → List ℕ
+shown_by true explain notes files head who mappings stack = counted_line 1 (json_text files mappings stack who)
+shown_by false explain notes files head who mappings stack =
+    shown_with explain notes (sample_text true false files [] head mappings stack)
+
 abbrev pub is_sure_sample : SampleStack → Bool
-is_sure_sample (of_walk stack) = is_sure_stack stack
+is_sure_sample (of_walk base stack) = is_sure_stack stack
 is_sure_sample (of_chain frames) = length (part_of true frames) == length frames
 
--- the end of a walk tells that words of the stack were not known
-abbrev pub is_unread_end : BacktraceEnd → Bool
-is_unread_end (Refused (CouldNotReadStack address)) = true
-is_unread_end (Refused error) = false
-is_unread_end CfaUnknown = true
-is_unread_end ReturnAddressUnknown = true
-is_unread_end RegistersUnknown = true
-is_unread_end SignalFrameUnread = true
-is_unread_end Root = false
-is_unread_end FramePointerZero = false
-is_unread_end Limit = false
-is_unread_end DidNotAdvance = false
-is_unread_end NoCaller = false
-is_unread_end (NotCode address) = false
+-- a frame of a stack is a guess
+abbrev pub is_guessed_stack : StackView → Bool
+is_guessed_stack (walked frames end) = has_guess frames
+is_guessed_stack (no_stack why) = false
+
+abbrev pub is_guessed_sample : SampleStack → Bool
+is_guessed_sample (of_walk base stack) = is_guessed_stack stack
+is_guessed_sample (of_chain frames) = false
+
+-- how many bytes of a stack the kernel copies at most, and perf asks for: a multiple of 8 below 2^16
+-- (`sample_stack_user` of `struct perf_event_attr`, include/uapi/linux/perf_event.h)
+abbrev pub MOST_COPIED : ℕ
+MOST_COPIED = 65528
+
+-- a larger copy, which begins at the same address, would have a word
+abbrev pub is_in_larger_copy : ℕ → ℕ → Bool
+is_in_larger_copy base address = nat_le base address && nat_le (address - base) (MOST_COPIED - 8)
+
+-- a walk ended at a word that a larger copy would have
+abbrev pub is_end_of_copy : ℕ → BacktraceEnd → Bool
+is_end_of_copy base (Refused (CouldNotReadStack address)) = is_in_larger_copy base address
+is_end_of_copy base end = false
 
 -- a stack is cut: its walk ended so, and its copy is full
 abbrev pub is_cut_sample : Bool → SampleStack → Bool
-is_cut_sample full (of_walk (walked frames end)) = full && is_unread_end end
-is_cut_sample full (of_walk (no_stack why)) = false
+is_cut_sample full (of_walk base (walked frames end)) = full && is_end_of_copy base end
+is_cut_sample full (of_walk base (no_stack why)) = false
 is_cut_sample full (of_chain frames) = false
 
--- what is told of a stack with notes, by the name of its thread, the head of its block, what ends its folded stack, the
--- mappings of its process, and whether its copy is full
-abbrev pub stack_told : Options → Files → List ℕ → List ℕ → List ℕ → List Mapping → Bool → SampleStack → List (List ℕ) → Told
-stack_told options files name head tail mappings full stack notes =
-    let text = ended_with options.frames tail (sample_text options.frames options.sure files name head mappings stack) in record {
-      text = text;
-      shown = shown_with options.explain notes text;
-      end = sample_end stack;
-      is_sure = is_sure_sample stack;
-      is_cut = is_cut_sample full stack;
-    }
+-- what is told of a stack with notes, by the name of its thread, the head of its block, its thread in JSON, what ends its
+-- folded stack, the mappings of its process, and whether its copy is full
+abbrev pub stack_told : Options → Files → List ℕ → List ℕ → Members → List ℕ → List Mapping → Bool → SampleStack
+    → List (List ℕ) → Told
+stack_told options files name head who tail mappings full stack notes = record {
+  text = line_by options.json options.sure files name who tail mappings stack;
+  shown = shown_by options.json options.explain notes files head who mappings stack;
+  end = sample_end stack;
+  is_sure = is_sure_sample stack;
+  has_guess = is_guessed_sample stack;
+  is_cut = is_cut_sample full stack;
+  in_vdso = has_unread_vdso files mappings (sample_frames stack);
+}
 
 -- the copy of a sample's stack is full
 abbrev pub is_full_user : Result UserView RecordingError → Bool
@@ -279,17 +335,25 @@ is_copy_full None = false
 abbrev pub told_by : Options → Files → List ℕ → Option Sample → List Mapping → SampleStack → List (List ℕ) → Told
 told_by options files name sample mappings stack notes =
     stack_told options files (folded_name options.by_thread name sample) (head_text options name sample)
-    (tail_text options sample) mappings (is_copy_full sample) stack notes
+    (thread_told options name sample) (tail_text options sample) mappings (is_copy_full sample) stack notes
+
+abbrev pub line_told : Options → Files → List ℕ → Option Sample → List Mapping → SampleStack → List ℕ
+line_told options files name sample mappings stack = (told_by options files name sample mappings stack []).text
+
+abbrev pub shown_told : Options → Files → List ℕ → Option Sample → List Mapping → SampleStack → List (List ℕ) → List ℕ
+shown_told options files name sample mappings stack notes = (told_by options files name sample mappings stack notes).shown
 
 -- the same by the name of its thread and the mappings of its process
 abbrev pub sample_told : Options → Files → State → Result (SampleView × ℕ) RecordingError → SampleStack → List (List ℕ) → Told
 sample_told options files state (Ok sample) stack notes =
     let name = state.named sample.0.tid in
     stack_told options files (thread_name options.by_thread name sample.0.pid sample.0.tid)
-    (head_of name sample.0.pid sample.0.tid sample.0.time ++ kernel_lines options sample.0.chain) (kernel_text options sample.0.chain)
+    (head_of name sample.0.pid sample.0.tid sample.0.time ++ kernel_lines options sample.0.chain)
+    (thread_by options name sample.0.pid sample.0.tid sample.0.time) (kernel_text options sample.0.chain)
     (state.mapped sample.0.pid) (is_full_user sample.0.user) stack notes
 sample_told options files state (Err refusal) stack notes =
-    stack_told options files (codes "[unknown]") (codes "[unknown]:\n") [] [] false stack notes
+    stack_told options files (codes "[unknown]") (codes "[unknown]:\n") (thread_members (codes "[unknown]") None None None) []
+    [] false stack notes
 
 module _ {Regs : Type 0} (module_of : Mapping → ModuleView) (walker : Walker Regs)
     (is_note : List ModuleView → Memory → FrameLocation → Regs → Result FoundBy BacktraceEnd → List ℕ → Type 0)
@@ -333,7 +397,8 @@ IsTextTaken false told old new before after = CountsOneMore old new told.text ×
 -- a sample is counted, and its text is taken
 abbrev pub IsTaken : Bool → Told → Counts → Counts → Option (List ℕ) → Option (List ℕ) → Type 0
 IsTaken frames told old new before after =
-    HasSampleMore old new told.end told.is_sure told.is_cut × IsTextTaken frames told old.stacks new.stacks before after
+    HasSampleMore old new told.end told.is_sure told.has_guess told.is_cut told.in_vdso
+    × IsTextTaken frames told old.stacks new.stacks before after
 
 -- the texts of samples
 abbrev pub texts_of : List Told → List (List ℕ)
@@ -357,15 +422,25 @@ ends_of samples = map (λ told. told.end) samples
 abbrev pub unsure_among : List Told → ℕ
 unsure_among samples = count_by (λ told. not told.is_sure) samples
 
+-- how many of them have a frame by a guess
+abbrev pub guessed_among : List Told → ℕ
+guessed_among samples = count_by (λ told. told.has_guess) samples
+
 -- how many of them are cut where their copies end
 abbrev pub cut_among : List Told → ℕ
 cut_among samples = count_by (λ told. told.is_cut) samples
+
+-- how many of them have a frame in a vdso of which no file was read
+abbrev pub in_vdso_among : List Told → ℕ
+in_vdso_among samples = count_by (λ told. told.in_vdso) samples
 
 -- samples are counted, by the ends of their walks
 pub record HasSamplesMore (samples : List Told) (old new : Counts) : Type 0 where
   pub count : new.samples ≡ old.samples + length samples
   pub unsure : new.unsure ≡ old.unsure + unsure_among samples
+  pub guessed : new.guessed ≡ old.guessed + guessed_among samples
   pub cut : new.cut ≡ old.cut + cut_among samples
+  pub in_vdso : new.in_vdso ≡ old.in_vdso + in_vdso_among samples
   pub ends : (end : List ℕ) → entry_of new.ends end ≡ more (entry_of old.ends end) (occurrences end (ends_of samples))
 
 -- several samples are counted, and their texts are taken
@@ -396,7 +471,9 @@ lost_over (r ∷ records) lost = lost_over records (lost_after r lost)
 pub record AreSummed (samples : List Told) (records : List RecordView) (counts : Counts) : Type 0 where
   pub count : counts.samples ≡ length samples
   pub unsure : counts.unsure ≡ unsure_among samples
+  pub guessed : counts.guessed ≡ guessed_among samples
   pub cut : counts.cut ≡ cut_among samples
+  pub in_vdso : counts.in_vdso ≡ in_vdso_among samples
   pub lost : counts.lost ≡ lost_over records 0
   pub ends : AreFolded (ends_of samples) counts.ends
   pub ordered : IsInOrderOfBytes counts.ends

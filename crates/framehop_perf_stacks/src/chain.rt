@@ -54,6 +54,7 @@ pub(crate) fn chain_stack(alloc: Global, addresses: &[u64]) -> Result<Stack<()>,
     Ok(Stack {
         frames,
         end: BacktraceEnd::Root,
+        step_end: BacktraceEnd::Root,
     })
 }
 

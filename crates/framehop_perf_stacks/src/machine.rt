@@ -4,7 +4,7 @@ ghost use Rattle.framehop.specs.Modules.{ModuleView, greatest_end as greatest_en
 ghost use Rattle.framehop_frames.specs.declared.machine.Start.{Start};
 
 use framehop::aarch64::{UnwindRegsAarch64, UnwinderAarch64};
-use framehop::cache::MayAllocateDuringUnwind;
+use framehop::cache::MustNotAllocateDuringUnwind;
 use framehop::section::SectionBytes;
 use framehop::x86_64::{UnwindRegsX86_64, UnwinderX86_64};
 use framehop_core::aarch64::PtrAuthMask;
@@ -22,7 +22,7 @@ pub trait Sampled: Steps {
         ensures { (modules : List ModuleView) → greatest_end_of modules ≡ greatest_end → starts modules mask values.now result };
 }
 
-impl<D: SectionBytes + Drop> Sampled for UnwinderX86_64<D, MayAllocateDuringUnwind> {
+impl<D: SectionBytes + Drop> Sampled for UnwinderX86_64<D, MustNotAllocateDuringUnwind> {
     ghost use Rattle.framehop_perf_stacks.specs.Start.{StartsX86_64};
 
     ghost starts = { StartsX86_64 };
@@ -37,7 +37,7 @@ impl<D: SectionBytes + Drop> Sampled for UnwinderX86_64<D, MayAllocateDuringUnwi
     }
 }
 
-impl<D: SectionBytes + Drop> Sampled for UnwinderAarch64<D, MayAllocateDuringUnwind> {
+impl<D: SectionBytes + Drop> Sampled for UnwinderAarch64<D, MustNotAllocateDuringUnwind> {
     ghost use Rattle.framehop_perf_stacks.specs.Start.{StartsAarch64};
 
     ghost starts = { StartsAarch64 };

@@ -1,10 +1,12 @@
 //! What is said of files: of which nothing was read, and of which something was not.
 ghost use Rattle.std.specs.Prelude.{◌≡◌, string_bytes, IfOk};
-ghost use Rattle.framehop_perf_stacks.specs.Problems.{compressed_text, left_out_text, has_compressed_frames, lines_left_out, said_of, noted_line, unread_line, IsProblemText, IsLineOf, AreProblems};
+ghost use Rattle.framehop_perf_stacks.specs.Problems.{left_out_text, frames_problem, lines_left_out, IsSaidOf, noted_line, unread_line, IsProblemText, IsLineOf, AreProblems};
 
+use framehop_elf::decompressed::ContentsError;
 use framehop_frames::line::push_name;
 use framehop_symbols::code_map::CodeMap;
 use framehop_symbols::files::{Files, NamedFile};
+use framehop_symbols::frames_text::frames_text;
 use framehop_symbols::object_file::{FileProblem, ObjectFile};
 use std::alloc::{AllocError, Global};
 
@@ -79,33 +81,21 @@ fn noted_line(alloc: Global, name: &[u8], said: &[u8]) -> Result<Vec<u8>, AllocE
 
 /// Returns what of a file was not read.
 fn said_of(alloc: Global, file: &NamedFile) -> Result<String, AllocError>
-    ensures { IfOk result (λ text. string_bytes text ≡ said_of file.now) }
+    ensures { IfOk result (λ text. IsSaidOf file.now (string_bytes text)) }
 {
-    let compressed = compressed_text(has_compressed_frames(&file.object));
-    let mut text = String::from_str(alloc, compressed)?;
+    let mut text = frames_text(alloc, frames_problem(&file.object))?;
     let left_out = left_out_text(alloc, lines_left_out(&file.code_map))?;
     text.push_str(left_out.as_str())?;
     Ok(text)
 }
 
-/// Returns what is said of a file whose `.debug_frame` is compressed.
-fn compressed_text(compressed: bool) -> &'static str
-    ensures { result.now ≡ compressed_text compressed }
-{
-    if compressed {
-        ": its .debug_frame is compressed; objcopy --decompress-debug-sections makes a file of which it can be read"
-    } else {
-        ""
-    }
-}
-
-/// Returns whether a file has a `.debug_frame` that is compressed.
-fn has_compressed_frames(object: &Option<ObjectFile>) -> bool
-    ensures { result ≡ has_compressed_frames object.now }
+/// Returns why a file's `.debug_frame` is not read.
+fn frames_problem(object: &Option<ObjectFile>) -> Option<ContentsError>
+    ensures { result ≡ frames_problem object.now }
 {
     match object {
-        Some(object) => object.has_compressed_frames(),
-        None => false,
+        Some(object) => object.frames_problem(),
+        None => None,
     }
 }
 

@@ -8,7 +8,7 @@ ghost use Rattle.framehop_recording.specs.Records.{RecordView};
 ghost use Rattle.framehop_recording.specs.declared.error.RecordingError.{RecordingError};
 ghost use Rattle.framehop_perf_stacks.specs.Bodies.{IsCompleted};
 ghost use Rattle.framehop_perf_stacks.specs.Choice.{IsChosenOf};
-ghost use Rattle.framehop_perf_stacks.specs.Counts.{counts_text, cut_text, summary_text};
+ghost use Rattle.framehop_perf_stacks.specs.Counts.{advice_text, counted_text, counts_text, cut_text, vdso_text, guess_text, samples_line, samples_text, summary_text, unsure_line};
 ghost use Rattle.framehop_folded.specs.Folded.{IsInOrderOfBytes};
 ghost use Rattle.framehop_perf_stacks.specs.Ended.{before_refusal, MayEnd};
 ghost use Rattle.framehop_perf_stacks.specs.Files.{AreFilesOf};
@@ -29,7 +29,7 @@ use crate::recording::{Recording, is_aarch64, read_files, read_recording};
 use crate::run::{Options, Run};
 use crate::sample_source::{InMemory, SampleSource};
 use framehop::aarch64::UnwinderAarch64;
-use framehop::cache::MayAllocateDuringUnwind;
+use framehop::cache::MustNotAllocateDuringUnwind;
 use framehop::x86_64::UnwinderX86_64;
 use framehop_folded::folded::Folded;
 use framehop_processes::ModuleMaker;
@@ -70,7 +70,7 @@ pub fn write_stacks<S: FileSource + MapSource, W: Write, E: Write>(
     ensures made { IfOk result (λ unwound. (whole : Recording) × IsReadOf file.now whole
         × ((recording : Recording) × IsChosenOf choice.now whole recording
         × ((files : Files) × AreFilesOf (S.source source.now) (S.gives_map source.now)
-        (map file_build_id_view recording.build_ids.items) (records_in recording.records.items) files
+        (map attribute_view recording.events.attributes.items) (map file_build_id_view recording.build_ids.items) (records_in recording.records.items) files
         × ((unsaid : Option (List ℕ)) × AreTold files (E.contents err.old) unsaid × MatchResult unwound.ended
         (λ refusal. IsWhole recording refusal × IsMadeOf recording files options.entry unwound.folded (W.contents out.old) (W.contents out.new) unsaid (E.contents err.new))
         (λ error. MayEndAt recording files error × IsMadeUntil error recording files options.entry unwound.folded (W.contents out.old) (W.contents out.new) unsaid (E.contents err.new)))))) }
@@ -99,7 +99,7 @@ pub fn write_recording_stacks<S: FileSource + MapSource, B: SampleSource, W: Wri
     err: &mut E,
 ) -> Result<Unwound, StacksError>
     ensures made { IfOk result (λ unwound. (files : Files) × AreFilesOf (S.source source.now) (S.gives_map source.now)
-        (map file_build_id_view recording.now.build_ids.items) (records_in recording.now.records.items) files
+        (map attribute_view recording.now.events.attributes.items) (map file_build_id_view recording.now.build_ids.items) (records_in recording.now.records.items) files
         × ((unsaid : Option (List ℕ)) × AreTold files (E.contents err.old) unsaid × MatchResult unwound.ended
         (λ refusal. IsWhole recording.now refusal × IsMadeWith (B.gives samples.now) recording.now files options.entry unwound.folded (W.contents out.old) (W.contents out.new) unsaid (E.contents err.new))
         (λ error. MayEndAt recording.now files error × IsMadeUntilWith (B.gives samples.now) error recording.now files options.entry unwound.folded (W.contents out.old) (W.contents out.new) unsaid (E.contents err.new)))) }
@@ -112,7 +112,11 @@ pub fn write_recording_stacks<S: FileSource + MapSource, B: SampleSource, W: Wri
 }
 
 /// Writes a line for each file of which nothing was read.
-fn write_problems<E: Write>(alloc: Global, err: &mut E, files: &Files) -> Result<(), StacksError>
+pub(crate) fn write_problems<E: Write>(
+    alloc: Global,
+    err: &mut E,
+    files: &Files,
+) -> Result<(), StacksError>
     ensures written { OnOk result (AreTold files.now (E.contents err.old) (E.contents err.new)) }
     ensures refused { IfErr result (λ error. (error ≡ OutOfMemory) ⊎ (error ≡ CannotWrite)) }
 {
@@ -122,7 +126,7 @@ fn write_problems<E: Write>(alloc: Global, err: &mut E, files: &Files) -> Result
 }
 
 /// Unwinds all samples of a recording by the unwinder of its architecture.
-fn unwind_recording<'m, B: SampleSource, W: Write, E: Write>(
+pub(crate) fn unwind_recording<'m, B: SampleSource, W: Write, E: Write>(
     alloc: Global,
     recording: &Recording<'_>,
     files: &Files<'m>,
@@ -140,7 +144,7 @@ fn unwind_recording<'m, B: SampleSource, W: Write, E: Write>(
     let maker = FileModules { files };
     if is_aarch64(&recording.events) {
         return unwind_all::<
-            UnwinderAarch64<MappedBytes<'m>, MayAllocateDuringUnwind>,
+            UnwinderAarch64<MappedBytes<'m>, MustNotAllocateDuringUnwind>,
             FileModules<'_, 'm>,
             B,
             W,
@@ -148,7 +152,7 @@ fn unwind_recording<'m, B: SampleSource, W: Write, E: Write>(
         >(alloc, recording, files, &maker, samples, options, out, err);
     }
     unwind_all::<
-        UnwinderX86_64<MappedBytes<'m>, MayAllocateDuringUnwind>,
+        UnwinderX86_64<MappedBytes<'m>, MustNotAllocateDuringUnwind>,
         FileModules<'_, 'm>,
         B,
         W,
@@ -207,7 +211,17 @@ fn write_counts<E: Write>(err: &mut E, counts: &Counts) -> Result<(), StacksErro
     ensures refused { IfErr result (λ error. error ≡ CannotWrite) }
 {
     write_ends(err, counts)?;
+    write_advice(err, counts)?;
+    Ok(())
+}
+
+/// Writes what can be done for stacks that are cut, and for those with a frame in a vdso of which no file was read.
+fn write_advice<E: Write>(err: &mut E, counts: &Counts) -> Result<(), StacksError>
+    ensures written { OnOk result (Appends (E.contents err.old) (E.contents err.new) (advice_text counts.now)) }
+    ensures refused { IfErr result (λ error. error ≡ CannotWrite) }
+{
     write_cut(err, counts.cut)?;
+    write_in_vdso(err, counts.in_vdso)?;
     Ok(())
 }
 
@@ -217,16 +231,68 @@ fn write_ends<E: Write>(err: &mut E, counts: &Counts) -> Result<(), StacksError>
     ensures ordered { OnOk result (IsInOrderOfBytes counts.now.ends) }
     ensures refused { IfErr result (λ error. error ≡ CannotWrite) }
 {
-    let samples = counts.samples;
-    let unsure = counts.unsure;
-    let lost = counts.lost;
-    writeln!(err, "{samples} samples, {lost} records lost by the kernel")?;
-    writeln!(
-        err,
-        "{unsure} samples with frames that no unwind data tells"
-    )?;
+    write_samples(err, counts.samples, counts.lost)?;
+    write_unsure(err, counts.unsure)?;
+    write_guessed(err, counts.guessed)?;
     writeln!(err, "how the stacks ended:")?;
     counts.ends.write(err)?;
+    Ok(())
+}
+
+/// Writes how many samples were counted, and how many records the kernel lost.
+#[tactic(auto, unfolding(crate::specs::Counts::samples_line))]
+fn write_samples<E: Write>(err: &mut E, samples: u64, lost: u64) -> Result<(), StacksError>
+    ensures written { OnOk result (Appends (E.contents err.old) (E.contents err.new) (samples_line samples lost)) }
+    ensures refused { IfErr result (λ error. error ≡ CannotWrite) }
+{
+    write_counted(err, samples)?;
+    writeln!(err, ", {lost} records lost by the kernel")?;
+    Ok(())
+}
+
+/// Writes how many samples were counted.
+#[tactic(auto, unfolding(crate::specs::Counts::counted_text))]
+fn write_counted<E: Write>(err: &mut E, samples: u64) -> Result<(), StacksError>
+    ensures written { OnOk result (Appends (E.contents err.old) (E.contents err.new) (counted_text samples)) }
+    ensures refused { IfErr result (λ error. error ≡ CannotWrite) }
+{
+    if samples == 0 {
+        write!(err, "no sample is counted")?;
+        return Ok(());
+    }
+    write_number(err, samples)
+}
+
+/// Writes how many samples have a frame that no unwind data tells.
+#[tactic(auto, unfolding(crate::specs::Counts::unsure_line))]
+fn write_unsure<E: Write>(err: &mut E, unsure: u64) -> Result<(), StacksError>
+    ensures written { OnOk result (Appends (E.contents err.old) (E.contents err.new) (unsure_line unsure)) }
+    ensures refused { IfErr result (λ error. error ≡ CannotWrite) }
+{
+    write_number(err, unsure)?;
+    writeln!(err, " with frames that no unwind data tells")?;
+    Ok(())
+}
+
+/// Writes a number of samples.
+fn write_number<E: Write>(err: &mut E, samples: u64) -> Result<(), StacksError>
+    ensures written { OnOk result (Appends (E.contents err.old) (E.contents err.new) (samples_text samples)) }
+    ensures refused { IfErr result (λ error. error ≡ CannotWrite) }
+{
+    let noun = if samples == 1 { "sample" } else { "samples" };
+    write!(err, "{samples} {noun}")?;
+    Ok(())
+}
+
+/// Writes how many samples have a caller by a guess, if some have.
+fn write_guessed<E: Write>(err: &mut E, guessed: u64) -> Result<(), StacksError>
+    ensures written { OnOk result (Appends (E.contents err.old) (E.contents err.new) (guess_text guessed)) }
+    ensures refused { IfErr result (λ error. error ≡ CannotWrite) }
+{
+    if guessed > 0 {
+        write_number(err, guessed)?;
+        writeln!(err, " with a caller by [guess]")?;
+    }
     Ok(())
 }
 
@@ -236,9 +302,25 @@ fn write_cut<E: Write>(err: &mut E, cut: u64) -> Result<(), StacksError>
     ensures refused { IfErr result (λ error. error ≡ CannotWrite) }
 {
     if cut > 0 {
+        write_number(err, cut)?;
         writeln!(
             err,
-            "{cut} samples end where the copy of their stack does: perf record --call-graph dwarf,65528 copies more"
+            " cut at the end of the copied stack: perf record --call-graph dwarf,65528 copies more"
+        )?;
+    }
+    Ok(())
+}
+
+/// Writes how many samples have a frame in a vdso of which no file was read, if some have.
+fn write_in_vdso<E: Write>(err: &mut E, in_vdso: u64) -> Result<(), StacksError>
+    ensures written { OnOk result (Appends (E.contents err.old) (E.contents err.new) (vdso_text in_vdso)) }
+    ensures refused { IfErr result (λ error. error ≡ CannotWrite) }
+{
+    if in_vdso > 0 {
+        write_number(err, in_vdso)?;
+        writeln!(
+            err,
+            " with a frame in [vdso], of which no file was found: --vdso FILE names it"
         )?;
     }
     Ok(())

@@ -23,7 +23,7 @@ ghost use Rattle.framehop_perf_stacks.specs.Names.{named_in};
 ghost use Rattle.framehop_perf_stacks.specs.Processes.{mapped_in, ready_in, IsServed};
 ghost use Rattle.framehop_perf_stacks.specs.Recording.{sample_in, records_in};
 ghost use Rattle.framehop_perf_stacks.specs.Run.{AreCounted, CountsMore, is_sample, samples_in_kind, sample_refusal};
-ghost use Rattle.framehop_perf_stacks.specs.Samples.{State, beginning, state_in, state_after, state_over, drawn_over, Agrees, samples_from, SampleStack, of_walk, of_chain, unread_stack, IsStackOfChain, is_copy_full, is_unread_end, told_by, copied_memory, NotedIf, IsUserStack, IsToldAt, IsToldWith, Told, lost_after, lost_over, Each, IsTaken, AreTaken};
+ghost use Rattle.framehop_perf_stacks.specs.Samples.{State, beginning, state_in, state_after, state_over, drawn_over, Agrees, samples_from, SampleStack, of_walk, of_chain, unread_stack, IsStackOfChain, is_copy_full, is_in_larger_copy, is_end_of_copy, told_by, base_of, copied_memory, NotedIf, IsUserStack, IsToldAt, IsToldWith, Told, lost_after, lost_over, Each, IsTaken, AreTaken};
 ghost use Rattle.framehop_frames.specs.Line.{end_name};
 ghost use Rattle.framehop_frames.specs.Notes.{option_noted, AreStackNotes};
 ghost use Rattle.framehop_frames.specs.Stack.{no_stack, shown_frame, stack_view, option_stack_view};
@@ -34,21 +34,23 @@ use crate::chain::chain_stack;
 use crate::changes::change_of;
 use crate::counts::Counts;
 use crate::error::StacksError;
-use crate::explain::{sample_notes, write_block};
+use crate::explain::sample_notes;
 use crate::kernel::KernelNames;
 use crate::machine::Sampled;
 use crate::names::Names;
 use crate::processes::Processes;
 use crate::recording::{Recording, sample_of};
 use crate::sample_source::SampleSource;
-use crate::sample_text::{chain_block, chain_line, folded_name, head_of, push_tail, walked_line};
+use crate::sample_text::{
+    chain_line, chain_shown, refused_shown, unwalked_line, walked_line, walked_shown,
+};
 use crate::stack::walk_sample;
+use crate::vdso::has_unread_vdso;
 use framehop::Error;
-use framehop_backtrace::BacktraceEnd;
-use framehop_cfi::context::UnwindContext;
-use framehop_cfi::storage::StoreOnHeap;
+use framehop_backtrace::{BacktraceEnd, RowRoom};
+use framehop_cfi::storage::StoreOnStack;
 use framehop_explain::Note;
-use framehop_frames::line::{end_name, frames_block, refused_block, refused_line, sure_part};
+use framehop_frames::line::{end_name, has_guess, sure_part};
 use framehop_frames::machine::Start;
 use framehop_frames::stack::Stack;
 use framehop_processes::{Mapping, ModuleMaker};
@@ -62,6 +64,9 @@ use framehop_recording::tasks::read_lost;
 use framehop_symbols::files::Files;
 use std::alloc::{AllocError, Global};
 use std::io::Write;
+
+/// How many bytes of a stack the kernel copies at most, and perf asks for.
+const MOST_COPIED: u64 = 65528;
 
 /// What is asked for.
 #[derive(Clone, Copy, Drop)]
@@ -78,6 +83,8 @@ pub struct Options<'a> {
     pub by_thread: bool,
     /// The frames of the kernel, where nothing is explained, with these names of functions.
     pub kernel: Option<&'a KernelNames>,
+    /// Stacks as JSON, in the place of lines and blocks.
+    pub json: bool,
 }
 
 /// The state of a run: what is known after the records so far.
@@ -88,7 +95,7 @@ where
 {
     processes: Processes<U>,
     names: Names,
-    unwind_context: UnwindContext<StoreOnHeap>,
+    room: RowRoom<StoreOnStack>,
     cache: U::Cache,
     /// What was counted of the samples so far.
     pub counts: Counts,
@@ -114,18 +121,20 @@ where
         Ok(Run {
             processes: Processes::new(alloc),
             names: Names::new(alloc),
-            unwind_context: UnwindContext::new_in(alloc)?,
+            room: RowRoom::new_in(alloc)?,
             cache: U::new_cache(alloc)?,
             counts: Counts::new(alloc),
         })
     }
 
-    /// Counts or writes the stack of a sample, whose process is known, or that it has none.
+    /// Counts or writes the stack of a sample, whose process is known, or that it has none. The copy of the stack begins at
+    /// `base` (AVMA).
     fn take_walked<W: Write>(
         &mut self,
         alloc: Global,
         files: &Files,
         sample: Sample<'_>,
+        base: u64,
         walked: &Option<Stack<U::UnwindRegs>>,
         notes: &[Note],
         options: Options<'_>,
@@ -137,7 +146,7 @@ where
         ensures names { self.new.names ≡ self.old.names }
         ensures cache { self.new.cache ≡ self.old.cache }
         ensures taken { OnOk result (IsTaken options.entry.frames
-            (told_by options.entry files.now (named_in self.old.names sample.entry.tid) (Some sample.entry) (mapped_in self.old.processes.by_pid sample.entry.pid) (of_walk (option_stack_view walked.now)) notes.now)
+            (told_by options.entry files.now (named_in self.old.names sample.entry.tid) (Some sample.entry) (mapped_in self.old.processes.by_pid sample.entry.pid) (of_walk base (option_stack_view walked.now)) notes.now)
             self.old.counts self.new.counts (W.contents out.old) (W.contents out.new)) }
         ensures refused { (samples : ℕ) → AreCounted options.entry.frames samples self.old.counts
             → IfErr result (MayEnd options.entry.frames None 0 (samples + 1)) }
@@ -153,6 +162,7 @@ where
                     mappings,
                     name,
                     sample,
+                    base,
                     stack,
                     notes,
                     options,
@@ -205,7 +215,7 @@ where
             alloc,
             files,
             process,
-            &mut self.unwind_context,
+            &mut self.room,
             &mut self.cache,
             start,
             user.stack,
@@ -223,6 +233,7 @@ where
             alloc,
             files,
             sample,
+            base_of(start),
             &walked,
             notes.as_slice(),
             options,
@@ -483,7 +494,8 @@ where
     }
 }
 
-/// Counts or writes the stack of a sample, by the name of its thread and its process's mappings in order.
+/// Counts or writes the stack of a sample, by the name of its thread and its process's mappings in order. The copy of the
+/// stack begins at `base` (AVMA).
 fn take_stack<R: Copy, W: Write>(
     alloc: Global,
     counts: &mut Counts,
@@ -491,6 +503,7 @@ fn take_stack<R: Copy, W: Write>(
     mappings: &[Mapping],
     name: &[u8],
     sample: Sample<'_>,
+    base: u64,
     stack: &Stack<R>,
     notes: &[Note],
     options: Options<'_>,
@@ -499,7 +512,7 @@ fn take_stack<R: Copy, W: Write>(
     requires { IsInOrder 0 mappings.now }
     ensures counted { OnOk result (CountsMore options.entry.frames 1 counts.old counts.new) }
     ensures taken { OnOk result (IsTaken options.entry.frames
-        (told_by options.entry files.now name.now (Some sample.entry) mappings.now (of_walk (stack_view stack.now)) notes.now)
+        (told_by options.entry files.now name.now (Some sample.entry) mappings.now (of_walk base (stack_view stack.now)) notes.now)
         counts.old counts.new (W.contents out.old) (W.contents out.new)) }
     ensures refused { (samples : ℕ) → AreCounted options.entry.frames samples counts.old
         → IfErr result (MayEnd options.entry.frames None 0 (samples + 1)) }
@@ -507,19 +520,14 @@ fn take_stack<R: Copy, W: Write>(
 {
     let frames = stack.frames.as_slice();
     let is_sure = sure_part(frames).len() == frames.len();
-    let is_cut = is_copy_full(Some(sample)) && is_unread_end(stack.end);
-    counts.add_sample(alloc, end_name(stack.end).as_bytes(), is_sure, is_cut)?;
+    let has_guess = has_guess(frames);
+    let is_cut = is_copy_full(Some(sample)) && is_end_of_copy(base, stack.end);
+    let end = end_name(stack.end).as_bytes();
+    let in_vdso = has_unread_vdso(files, mappings, frames);
+    counts.add_sample(alloc, end, is_sure, has_guess, is_cut, in_vdso)?;
     if options.frames {
-        let head = head_of(alloc, name, Some(sample), options)?;
-        let block = frames_block(alloc, files, mappings, stack)?;
-        write_block(
-            alloc,
-            head.as_slice(),
-            block.as_slice(),
-            options.explain,
-            notes,
-            out,
-        )?;
+        let shown = walked_shown(alloc, files, mappings, name, sample, stack, notes, options)?;
+        out.write_all(shown.as_slice())?;
     } else {
         let line = walked_line(alloc, files, mappings, name, sample, stack, options)?;
         counts.add_stack(line)?;
@@ -580,18 +588,11 @@ fn take_chain<W: Write>(
 {
     let frames = stack.frames.as_slice();
     let is_sure = sure_part(frames).len() == frames.len();
-    counts.add_sample(alloc, b"callchain", is_sure, false)?;
+    let in_vdso = has_unread_vdso(files, mappings, frames);
+    counts.add_sample(alloc, b"callchain", is_sure, false, false, in_vdso)?;
     if options.frames {
-        let head = head_of(alloc, name, Some(sample), options)?;
-        let block = chain_block(alloc, files, mappings, stack)?;
-        write_block(
-            alloc,
-            head.as_slice(),
-            block.as_slice(),
-            options.explain,
-            &[],
-            out,
-        )?;
+        let shown = chain_shown(alloc, files, mappings, name, sample, stack, options)?;
+        out.write_all(shown.as_slice())?;
     } else {
         let line = chain_line(alloc, files, mappings, name, sample, stack, options)?;
         counts.add_stack(line)?;
@@ -611,29 +612,19 @@ fn take_refused<W: Write>(
     out: &mut W,
 ) -> Result<(), StacksError>
     ensures counted { OnOk result (CountsMore options.entry.frames 1 counts.old counts.new) }
-    ensures taken { OnOk result ((files : Files) (mappings : List Mapping) → IsTaken options.entry.frames
-        (told_by options.entry files name.now sample.entry mappings (of_walk (no_stack why.now)) notes.now)
+    ensures taken { OnOk result ((files : Files) (mappings : List Mapping) (base : ℕ) → IsTaken options.entry.frames
+        (told_by options.entry files name.now sample.entry mappings (of_walk base (no_stack why.now)) notes.now)
         counts.old counts.new (W.contents out.old) (W.contents out.new)) }
     ensures refused { (samples : ℕ) → AreCounted options.entry.frames samples counts.old
         → IfErr result (MayEnd options.entry.frames None 0 (samples + 1)) }
     ensures ends { OnOk result (CountsOneMore counts.old.ends counts.new.ends why.now) }
 {
-    counts.add_sample(alloc, why.as_bytes(), true, false)?;
+    counts.add_sample(alloc, why.as_bytes(), true, false, false, false)?;
     if options.frames {
-        let head = head_of(alloc, name, sample, options)?;
-        let block = refused_block(alloc, why)?;
-        write_block(
-            alloc,
-            head.as_slice(),
-            block.as_slice(),
-            options.explain,
-            notes,
-            out,
-        )?;
+        let shown = refused_shown(alloc, name, sample, why, notes, options)?;
+        out.write_all(shown.as_slice())?;
     } else {
-        let name = folded_name(alloc, name, sample, options)?;
-        let mut line = refused_line(alloc, name.as_slice(), why)?;
-        push_tail(alloc, &mut line, options, sample)?;
+        let line = unwalked_line(alloc, name, sample, why, options)?;
         counts.add_stack(line)?;
     }
     Ok(())
@@ -649,17 +640,32 @@ fn is_copy_full(sample: Option<Sample<'_>>) -> bool
     }
 }
 
-/// Returns whether the end of a walk tells that words of the stack were not known.
-fn is_unread_end(end: BacktraceEnd) -> bool
-    ensures { result ≡ is_unread_end end }
+/// Returns whether a walk ended at a word that a larger copy of the stack would have, by where the copy begins (AVMA).
+fn is_end_of_copy(base: u64, end: BacktraceEnd) -> bool
+    ensures { result ≡ is_end_of_copy base end }
 {
     match end {
-        BacktraceEnd::Refused(Error::CouldNotReadStack(_))
-        | BacktraceEnd::CfaUnknown
-        | BacktraceEnd::ReturnAddressUnknown
-        | BacktraceEnd::RegistersUnknown
-        | BacktraceEnd::SignalFrameUnread => true,
+        BacktraceEnd::Refused(Error::CouldNotReadStack(address)) => {
+            is_in_larger_copy(base, address)
+        }
         _ => false,
+    }
+}
+
+/// Returns whether a larger copy of a stack, which begins at the same address (AVMA), would have the word at another one.
+fn is_in_larger_copy(base: u64, address: u64) -> bool
+    ensures { result ≡ is_in_larger_copy base address }
+{
+    base <= address && address - base <= MOST_COPIED - 8
+}
+
+/// Returns where the copy of a stack begins (AVMA), by the registers with which a walk begins.
+fn base_of<R: Copy>(start: Option<Start<R>>) -> u64
+    ensures { result ≡ base_of start }
+{
+    match start {
+        Some(start) => start.sp,
+        None => 0,
     }
 }
 

@@ -22,7 +22,7 @@ pub trait SampleSource {
 
 /// The records themselves, where a recording is in memory whole.
 #[derive(Clone, Copy, Drop)]
-pub(crate) struct InMemory;
+pub struct InMemory;
 
 impl SampleSource for InMemory {
     ghost use Rattle.framehop_perf_stacks.specs.Bodies.{own_body};

@@ -1,12 +1,17 @@
 //! The text of a sample: its folded stack, and the head and the lines of its block.
-ghost use Rattle.std.specs.Prelude.{◌≡◌, ◌++◌, [], Some, true, false, IfOk, OnOk, map};
+ghost use Rattle.std.specs.Prelude.{ℕ, ◌≡◌, ◌++◌, [], List, Some, true, false, IfOk, OnOk, map};
 ghost use Rattle.framehop_backtrace.specs.declared.frame.BacktraceEnd.TheVariants.{Root};
-ghost use Rattle.framehop_frames.specs.Stack.{shown_frame, stack_text, stack_view};
-ghost use Rattle.framehop_perf_stacks.specs.Samples.{chain_text, thread_name, folded_name, head_text, tail_text};
+ghost use Rattle.framehop_frames.specs.Stack.{no_stack, shown_frame, stack_view};
+ghost use Rattle.framehop_perf_stacks.specs.Samples.{of_walk, of_chain, chain_text, thread_name, folded_name, head_text, tail_text, line_told, shown_told};
 ghost use Rattle.framehop_processes.specs.Mappings.{IsInOrder};
+ghost use Rattle.framehop_processes.specs.declared.mapping.Mapping.{Mapping};
+ghost use Rattle.framehop_symbols.specs.declared.files.Files.{Files};
 
 use crate::kernel::{push_kernel_labels, push_kernel_lines};
 use crate::run::Options;
+use crate::sample_json::{chain_json, counted_line, unwalked_json, walked_json};
+use framehop_explain::Note;
+use framehop_frames::explain::shown_block;
 use framehop_frames::line::{block_head, folded_line, frames_block, refused_block, refused_line};
 use framehop_frames::stack::Stack;
 use framehop_processes::Mapping;
@@ -14,7 +19,7 @@ use framehop_recording::sample::Sample;
 use framehop_symbols::files::Files;
 use std::alloc::{AllocError, Global};
 
-/// Returns the folded stack of a sample, by the name of its thread and its process's mappings in order.
+/// Returns the folded stack of a sample, or its JSON, by the name of its thread and its process's mappings in order.
 pub(crate) fn walked_line<R: Copy>(
     alloc: Global,
     files: &Files,
@@ -25,16 +30,49 @@ pub(crate) fn walked_line<R: Copy>(
     options: Options<'_>,
 ) -> Result<Vec<u8>, AllocError>
     requires { IsInOrder 0 mappings.now }
-    ensures { IfOk result (λ line. line.items ≡ stack_text false options.entry.sure files.now (folded_name options.entry.by_thread name.now (Some sample.entry)) [] mappings.now (stack_view stack.now)
-        ++ tail_text options.entry (Some sample.entry)) }
+    ensures { IfOk result (λ line. (base : ℕ) → line.items
+        ≡ line_told options.entry files.now name.now (Some sample.entry) mappings.now (of_walk base (stack_view stack.now))) }
 {
+    if options.json {
+        return walked_json(alloc, files, mappings, name, sample, stack, options);
+    }
     let name = folded_name(alloc, name, Some(sample), options)?;
     let mut line = folded_line(alloc, files, mappings, name.as_slice(), stack, options.sure)?;
     push_kernel_labels(alloc, &mut line, options, sample.chain)?;
     Ok(line)
 }
 
-/// Returns the folded stack of a call chain, by the name of its thread and its process's mappings in order.
+/// Returns what is written of a sample: its block, with notes where it is to be explained, or a line of JSON.
+pub(crate) fn walked_shown<R: Copy>(
+    alloc: Global,
+    files: &Files,
+    mappings: &[Mapping],
+    name: &[u8],
+    sample: Sample<'_>,
+    stack: &Stack<R>,
+    notes: &[Note],
+    options: Options<'_>,
+) -> Result<Vec<u8>, AllocError>
+    requires { IsInOrder 0 mappings.now }
+    ensures { IfOk result (λ shown. (base : ℕ) → shown.items
+        ≡ shown_told options.entry files.now name.now (Some sample.entry) mappings.now (of_walk base (stack_view stack.now)) notes.now) }
+{
+    if options.json {
+        let text = walked_json(alloc, files, mappings, name, sample, stack, options)?;
+        return counted_line(alloc, 1, text.as_slice());
+    }
+    let head = head_of(alloc, name, Some(sample), options)?;
+    let block = frames_block(alloc, files, mappings, stack)?;
+    shown_block(
+        alloc,
+        head.as_slice(),
+        block.as_slice(),
+        options.explain,
+        notes,
+    )
+}
+
+/// Returns the folded stack of a call chain, or its JSON, by the name of its thread and its process's mappings in order.
 pub(crate) fn chain_line(
     alloc: Global,
     files: &Files,
@@ -46,9 +84,12 @@ pub(crate) fn chain_line(
 ) -> Result<Vec<u8>, AllocError>
     requires ordered { IsInOrder 0 mappings.now }
     requires whole { stack.now.end ≡ Root }
-    ensures { IfOk result (λ line. line.items ≡ chain_text false options.entry.sure files.now (folded_name options.entry.by_thread name.now (Some sample.entry)) [] mappings.now (map shown_frame stack.now.frames.items)
-        ++ tail_text options.entry (Some sample.entry)) }
+    ensures { IfOk result (λ line. line.items
+        ≡ line_told options.entry files.now name.now (Some sample.entry) mappings.now (of_chain (map shown_frame stack.now.frames.items))) }
 {
+    if options.json {
+        return chain_json(alloc, files, mappings, name, sample, stack, options);
+    }
     let name = folded_name(alloc, name, Some(sample), options)?;
     let mut line = refused_line(alloc, name.as_slice(), "callchain")?;
     let frames = folded_line(alloc, files, mappings, b"", stack, options.sure)?;
@@ -57,8 +98,85 @@ pub(crate) fn chain_line(
     Ok(line)
 }
 
+/// Returns what is written of a call chain: its block or a line of JSON.
+pub(crate) fn chain_shown(
+    alloc: Global,
+    files: &Files,
+    mappings: &[Mapping],
+    name: &[u8],
+    sample: Sample<'_>,
+    stack: &Stack<()>,
+    options: Options<'_>,
+) -> Result<Vec<u8>, AllocError>
+    requires ordered { IsInOrder 0 mappings.now }
+    requires whole { stack.now.end ≡ Root }
+    ensures { IfOk result (λ shown. shown.items
+        ≡ shown_told options.entry files.now name.now (Some sample.entry) mappings.now (of_chain (map shown_frame stack.now.frames.items)) []) }
+{
+    if options.json {
+        let text = chain_json(alloc, files, mappings, name, sample, stack, options)?;
+        return counted_line(alloc, 1, text.as_slice());
+    }
+    let head = head_of(alloc, name, Some(sample), options)?;
+    let block = chain_block(alloc, files, mappings, stack)?;
+    shown_block(
+        alloc,
+        head.as_slice(),
+        block.as_slice(),
+        options.explain,
+        &[],
+    )
+}
+
+/// Returns the folded stack of a sample that has no stack, or its JSON.
+pub(crate) fn unwalked_line(
+    alloc: Global,
+    name: &[u8],
+    sample: Option<Sample<'_>>,
+    why: &str,
+    options: Options<'_>,
+) -> Result<Vec<u8>, AllocError>
+    ensures { IfOk result (λ line. (files : Files) (mappings : List Mapping) (base : ℕ) → line.items
+        ≡ line_told options.entry files name.now sample.entry mappings (of_walk base (no_stack why.now))) }
+{
+    if options.json {
+        return unwalked_json(alloc, name, sample, why, options);
+    }
+    let name = folded_name(alloc, name, sample, options)?;
+    let mut line = refused_line(alloc, name.as_slice(), why)?;
+    push_tail(alloc, &mut line, options, sample)?;
+    Ok(line)
+}
+
+/// Returns what is written of a sample that has no stack: its block or a line of JSON.
+pub(crate) fn refused_shown(
+    alloc: Global,
+    name: &[u8],
+    sample: Option<Sample<'_>>,
+    why: &str,
+    notes: &[Note],
+    options: Options<'_>,
+) -> Result<Vec<u8>, AllocError>
+    ensures { IfOk result (λ shown. (files : Files) (mappings : List Mapping) (base : ℕ) → shown.items
+        ≡ shown_told options.entry files name.now sample.entry mappings (of_walk base (no_stack why.now)) notes.now) }
+{
+    if options.json {
+        let text = unwalked_json(alloc, name, sample, why, options)?;
+        return counted_line(alloc, 1, text.as_slice());
+    }
+    let head = head_of(alloc, name, sample, options)?;
+    let block = refused_block(alloc, why)?;
+    shown_block(
+        alloc,
+        head.as_slice(),
+        block.as_slice(),
+        options.explain,
+        notes,
+    )
+}
+
 /// Returns the lines of a call chain, by its process's mappings in order.
-pub(crate) fn chain_block(
+fn chain_block(
     alloc: Global,
     files: &Files,
     mappings: &[Mapping],
@@ -77,7 +195,7 @@ pub(crate) fn chain_block(
 }
 
 /// Appends what ends a folded stack: the frames of the kernel.
-pub(crate) fn push_tail(
+fn push_tail(
     alloc: Global,
     line: &mut Vec<u8>,
     options: Options<'_>,
@@ -92,7 +210,7 @@ pub(crate) fn push_tail(
 }
 
 /// Returns the name of a sample's thread in a folded stack.
-pub(crate) fn folded_name(
+fn folded_name(
     alloc: Global,
     name: &[u8],
     sample: Option<Sample<'_>>,
@@ -131,7 +249,7 @@ fn push_thread(
 }
 
 /// Returns the head of a sample's block, by the name of its thread, where the sample can be read.
-pub(crate) fn head_of(
+fn head_of(
     alloc: Global,
     name: &[u8],
     sample: Option<Sample<'_>>,

@@ -8,9 +8,8 @@ ghost use Rattle.framehop_perf_stacks.specs.Samples.{sampled_from, noted_sample}
 
 use crate::machine::Sampled;
 use framehop::walk::StackBytes;
-use framehop_backtrace::OrElse;
-use framehop_cfi::context::UnwindContext;
-use framehop_cfi::storage::StoreOnHeap;
+use framehop_backtrace::{OrElse, RowRoom};
+use framehop_cfi::storage::StoreOnStack;
 use framehop_frames::machine::Start;
 use framehop_frames::memory::MappedMemory;
 use framehop_frames::rows::DebugFrames;
@@ -26,7 +25,7 @@ pub(crate) fn walk_sample<U: Sampled>(
     alloc: Global,
     files: &Files,
     process: &Process<U>,
-    unwind_context: &mut UnwindContext<StoreOnHeap>,
+    room: &mut RowRoom<StoreOnStack>,
     cache: &mut U::Cache,
     start: Option<Start<U::UnwindRegs>>,
     copied: &[u8],
@@ -56,15 +55,6 @@ pub(crate) fn walk_sample<U: Sampled>(
         first: unwinder,
         second: &DebugFrames { files, process },
     };
-    let stack = walk_stack(
-        alloc,
-        unwinder,
-        &rows,
-        unwind_context,
-        cache,
-        &memory,
-        start,
-        limit,
-    )?;
+    let stack = walk_stack(alloc, unwinder, &rows, room, cache, &memory, start, limit)?;
     Ok(Some(stack))
 }

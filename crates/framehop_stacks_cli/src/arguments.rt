@@ -72,7 +72,7 @@ const OPTIONS: [CommandOption; 27] = [
         name: "perf-map",
         value: OptionValue::One("DIR"),
         with: None,
-        help: "The names of code that JIT compilers make, of a recording: perf-PID.map in this folder, where programs write it as /tmp/perf-PID.map [default: such code has no names]",
+        help: "The names of code that JIT compilers make, of a recording: perf-PID.map in this folder, of the user or of root [default: /tmp, where programs write it, without --root]",
     },
     CommandOption {
         name: "frames",
@@ -198,7 +198,7 @@ const OPTIONS: [CommandOption; 27] = [
         name: "json",
         value: OptionValue::None,
         with: None,
-        help: "Print of each core file and minidump a line of JSON, with what ended the process, its threads with their frames, and its modules [default: a block for each thread]",
+        help: "Print JSON: of each core file and minidump a line, with what ended the process, its threads with their frames, and its modules; of each recording a line with its modules, and then one for each stack with its count or, with --frames, for each sample [default: a block for each thread, and folded stacks]",
     },
 ];
 
@@ -321,5 +321,6 @@ pub fn options<'n>(matches: &ArgMatches<'_>, names: &'n KernelNames) -> Option<O
         limit,
         by_thread: matches.get_flag("by-thread"),
         kernel,
+        json: matches.get_flag("json"),
     })
 }

@@ -1,11 +1,13 @@
 //! Core files of which only parts are read: the headers and the notes, and of memory what is asked for.
 use crate::input::{read_at, read_front};
-use crate::object_parts::{ELF_HEADER_SIZE, PROGRAM_HEADER_SIZE, PT_NOTE, write_u64};
+use crate::object_parts::{ELF_HEADER_SIZE, PROGRAM_HEADER_SIZE, write_u64};
 use framehop_coredump::core_file::{Machine, read_core_file};
+use framehop_coredump::mapped_file::{MappedFile, read_mapped_files};
+use framehop_coredump::note::read_notes;
 use framehop_coredump::registers::{aarch64_registers, code_ptr_auth_mask, x86_64_registers};
 use framehop_dump_stacks::dump::{Dump, Registers};
 use framehop_elf::header::read_file_header;
-use framehop_elf::program_header::ProgramHeader;
+use framehop_elf::program_header::{PT_NOTE, ProgramHeader};
 use framehop_elf::segment::loaded_segments;
 use framehop_memory::left_out::ReadPart;
 use framehop_memory::memory::MemoryRange;
@@ -22,6 +24,25 @@ const P_OFFSET: u64 = 8;
 /// How many bytes before an address that is asked for are read with it: a walk may ask for what lies below it.
 const MARGIN: u64 = 0x1_0000;
 
+/// The size, in bytes, from which on a segment of code that no file has is read in pieces, as that of a JIT compiler: 16 MiB.
+const LARGE_CODE: u64 = 0x100_0000;
+
+/// The size of a piece in bytes, without what it shares with the next one: 1 MiB.
+const PIECE: u64 = 0x10_0000;
+
+/// How many bytes a piece shares with the next one. A read of code is shorter, so each has a piece with all of its bytes.
+const SHARED: u64 = 0x1_0000;
+
+/// The size of a core file, in bytes, up to which it is small: 16 MiB.
+const SMALL_FILE: u64 = 0x100_0000;
+
+/// How often more of a small core file is read before it is read whole. Each time all is done again, where whole files of that
+/// size are read in less time.
+const ROUNDS_OF_SMALL_FILE: u32 = 3;
+
+/// How often more of another core file is read before it is read whole.
+const MOST_ROUNDS: u32 = 16;
+
 /// The first address (AVMA) that is the kernel's.
 const FIRST_OF_KERNEL: u64 = 0x8000_0000_0000_0000;
 
@@ -33,7 +54,7 @@ pub struct CoreParts {
     size: u64,
     /// The headers of the file, and then its notes.
     front: Vec<u8>,
-    /// The memory that the file has, in the order of addresses, and apart.
+    /// The memory that the file has, in the order of addresses. Two share bytes only where they are pieces of one segment.
     segments: Vec<WantedSegment>,
 }
 
@@ -44,6 +65,15 @@ struct WantedSegment {
     range: MemoryRange,
     /// The size of the end that is read, in bytes.
     wanted: u64,
+}
+
+/// A segment of memory that a core file has.
+#[derive(Clone, Copy)]
+struct LoadedSegment {
+    /// Where the file has it.
+    range: MemoryRange,
+    /// It may be executed.
+    is_code: bool,
 }
 
 /// What was read of the memory of a core file.
@@ -78,8 +108,13 @@ impl CoreParts {
         if !add_notes(alloc, &mut file, headers.as_slice(), most, &mut front)? {
             return Ok(None);
         }
-        let segments = segments_of(alloc, headers.as_slice(), metadata.len())?;
-        Ok(segments.map(|segments| CoreParts {
+        let Some(loaded) = segments_of(alloc, headers.as_slice(), metadata.len())? else {
+            return Ok(None);
+        };
+        let Some(segments) = in_pieces(alloc, front.as_slice(), loaded.as_slice())? else {
+            return Ok(None);
+        };
+        Ok(Some(CoreParts {
             file,
             size: metadata.len(),
             front,
@@ -90,6 +125,15 @@ impl CoreParts {
     /// Returns the headers of the file, and then its notes, as a file of their own.
     pub fn front(&self) -> &[u8] {
         self.front.as_slice()
+    }
+
+    /// Returns how often more of the file is read before it is read whole.
+    pub fn most_rounds(&self) -> u32 {
+        if self.size <= SMALL_FILE {
+            ROUNDS_OF_SMALL_FILE
+        } else {
+            MOST_ROUNDS
+        }
     }
 
     /// Reads the memory that is wanted. `None` where it has more bytes than the file, since segments share some.
@@ -236,13 +280,67 @@ fn add_notes(
     Ok(true)
 }
 
-/// Returns the segments of memory that a file of a size has, of which nothing is wanted, in the order of their addresses; `None`
-/// where they overlap, or do not lie in the file.
+/// Returns the segments that are read apart, of which nothing is wanted: those of memory, of which large ones of code that no file
+/// has are cut into pieces. `None` where the notes, which are in the front of the file, can't be read.
+fn in_pieces(
+    alloc: Global,
+    front: &[u8],
+    loaded: &[LoadedSegment],
+) -> Result<Option<Vec<WantedSegment>>, AllocError> {
+    let Some(mapped) = mapped_files(alloc, front) else {
+        return Ok(None);
+    };
+    let mut segments = Vec::with_capacity(alloc, loaded.len())?;
+    for segment in loaded {
+        let is_cut = segment.is_code && segment.range.size > LARGE_CODE;
+        if is_cut && !mapped.iter().any(|file| has_file(segment.range, file)) {
+            push_pieces(&mut segments, segment.range)?;
+        } else {
+            push_wanted(&mut segments, segment.range)?;
+        }
+    }
+    Ok(Some(segments))
+}
+
+/// Returns the files that were mapped, by the front of a core file.
+fn mapped_files(alloc: Global, front: &[u8]) -> Option<Vec<MappedFile<'_>>> {
+    let core = read_core_file(alloc, front).ok()?;
+    let notes = read_notes(alloc, front, core.segments.as_slice()).ok()?;
+    read_mapped_files(alloc, notes.as_slice()).ok()
+}
+
+/// Returns whether a file was mapped at an address of a range.
+fn has_file(range: MemoryRange, file: &MappedFile<'_>) -> bool {
+    file.start < range.start.saturating_add(range.size) && range.start < file.end
+}
+
+/// Appends the pieces of a range, of which nothing is wanted.
+fn push_pieces(segments: &mut Vec<WantedSegment>, range: MemoryRange) -> Result<(), AllocError> {
+    for number in 0..range.size.div_ceil(PIECE) {
+        let before = number.saturating_mul(PIECE);
+        let piece = MemoryRange {
+            start: range.start.saturating_add(before),
+            size: range.size.saturating_sub(before).min(PIECE + SHARED),
+            offset: range.offset.saturating_add(before),
+        };
+        push_wanted(segments, piece)?;
+    }
+    Ok(())
+}
+
+/// Appends a range, of which nothing is wanted.
+fn push_wanted(segments: &mut Vec<WantedSegment>, range: MemoryRange) -> Result<(), AllocError> {
+    segments.push(WantedSegment { range, wanted: 0 })?;
+    Ok(())
+}
+
+/// Returns the segments of memory that a file of a size has, in the order of their addresses; `None` where they overlap, or do
+/// not lie in the file.
 fn segments_of(
     alloc: Global,
     headers: &[ProgramHeader],
     size: u64,
-) -> Result<Option<Vec<WantedSegment>>, AllocError> {
+) -> Result<Option<Vec<LoadedSegment>>, AllocError> {
     let mut segments = Vec::new(alloc);
     for loaded in &loaded_segments(alloc, headers)? {
         let end = loaded.offset.saturating_add(loaded.file_size);
@@ -256,7 +354,8 @@ fn segments_of(
                 size: has,
                 offset: loaded.offset,
             };
-            segments.push(WantedSegment { range, wanted: 0 })?;
+            let is_code = loaded.is_code;
+            segments.push(LoadedSegment { range, is_code })?;
         }
     }
     segments.sort_by_key(|segment| segment.range.start)?;
@@ -268,7 +367,7 @@ fn segments_of(
 }
 
 /// Returns whether each segment ends before the next one begins.
-fn are_apart(segments: &[WantedSegment]) -> bool {
+fn are_apart(segments: &[LoadedSegment]) -> bool {
     let mut end: u64 = 0;
     for segment in segments {
         let Some(next) = segment.range.start.checked_add(segment.range.size) else {

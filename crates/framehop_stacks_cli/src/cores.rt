@@ -4,8 +4,8 @@ use crate::disk::Disk;
 use crate::input::Kind;
 use crate::messages::Messages;
 use crate::{Form, misuse_of, say_misuse, status_of};
-use framehop_cli::Result;
-use framehop_dump_json::json::Json;
+use framehop_cli::{Result, StandardOutput};
+use framehop_dump_json::dump_report::Json;
 use framehop_dump_stacks::core_dump::{read_core_dump, read_core_dump_over};
 use framehop_dump_stacks::dump::Dump;
 use framehop_dump_stacks::error::DumpStacksError;
@@ -15,11 +15,7 @@ use framehop_dump_stacks::reporting::report_dump_stacks;
 use framehop_memory::left_out::LeftOut;
 use framehop_memory::memory::ProcessMemory;
 use framehop_perf_stacks::run::Options;
-use std::io;
 use std::io::Write;
-
-/// How often more of a core file is read before it is read whole.
-const MOST_ROUNDS: u32 = 16;
 
 /// What came of a round over the parts that were read of a core file.
 #[derive(Drop)]
@@ -52,7 +48,7 @@ pub fn print_core_parts(
     if let Some(misuse) = misuse_of(Kind::Core, options, form) {
         return Ok(Some(say_misuse(rt, path, misuse)?));
     }
-    for _round in 0..MOST_ROUNDS {
+    for _round in 0..core.most_rounds() {
         let Ok(Some(memory)) = core.read_memory(rt.alloc()) else {
             return Ok(None);
         };
@@ -131,7 +127,11 @@ fn stacks(
     }
     let files = read_files(alloc, dump, disk)?;
     let (mut out, mut said) = (Vec::new(alloc), Vec::new(alloc));
-    report_dump_stacks(alloc, dump, &files, limit, &Json, &mut out, &mut said)?;
+    let paths = disk.paths_of(&files)?;
+    let json = Json {
+        paths: paths.as_slice(),
+    };
+    report_dump_stacks(alloc, dump, &files, limit, &json, &mut out, &mut said)?;
     if left_out.asked(alloc)?.is_empty() {
         Ok(Some(Written { out, said }))
     } else {
@@ -146,7 +146,7 @@ fn print_stacks(rt: &HostRuntime, path: &str, stacks: &Stacks) -> Result<u8> {
         Ok(None) => return status_of(rt, path, Ok(())),
         Err(error) => return status_of(rt, path, Err(*error)),
     };
-    let printed = io::writer(rt).write_all(written.out.as_slice());
+    let printed = StandardOutput { rt }.write_all(written.out.as_slice());
     Messages { rt }.write_all(written.said.as_slice())?;
     match printed {
         Ok(()) => status_of(rt, path, Ok(())),

@@ -3,14 +3,18 @@ use crate::input::read_sized;
 use crate::known_names::KnownNames;
 use crate::messages::Messages;
 use crate::object_parts::read_object;
-use framehop_cli::Result;
+use crate::read_paths::ReadPaths;
+use framehop_cli::{Printed, Result};
+use framehop_frames::json_files::FilePaths;
 use framehop_perf_stacks::perf_map::MapSource;
-use framehop_symbols::files::{FileSource, is_vdso, is_windows_path};
+use framehop_symbols::files::{FileSource, Files, is_vdso, is_windows_path};
 use framehop_symbols::made_up_id::is_made_up;
 use framehop_symbols::object_file::build_id_of;
 use std::alloc::{AllocError, Global};
 use std::cell::Cell;
+use std::fmt::Display;
 use std::io::{ErrorKind, Write};
+use std::os::unix::fs::MetadataExt;
 use std::path::PathBuf;
 use std::{fs, io};
 
@@ -19,6 +23,9 @@ const MADE_UP: [&str; 3] = ["/proc", "/sys", "/dev"];
 
 /// The size of the largest file that is read for its unwind data and names, in bytes: 4 GiB.
 const LARGEST_FILE: u64 = 0x1_0000_0000;
+
+/// The size of the largest map of a JIT compiler that is read, in bytes: 256 MiB.
+const LARGEST_MAP: u64 = 0x1000_0000;
 
 /// The folder below which systems keep debug files.
 const DEBUG_DIR: &str = "/usr/lib/debug";
@@ -46,11 +53,20 @@ pub struct Disk<'a> {
     pub home: Option<PathBuf>,
     /// The file of the vdso, if one is named.
     pub vdso: Option<&'a str>,
-    /// The folder of the maps that JIT compilers write, if one is named.
+    /// The folder of the maps that JIT compilers write, if they are read.
     pub perf_map: Option<&'a str>,
     pub program: Option<Program<'a>>,
     /// The names by which mapped files and their debug files were read.
     pub known_names: KnownNames,
+    /// Where they were read.
+    pub read_paths: ReadPaths,
+}
+
+/// A file that was read.
+#[derive(Drop)]
+struct ReadFile {
+    path: String,
+    bytes: Vec<u8>,
 }
 
 impl FileSource for Disk<'_> {
@@ -62,19 +78,13 @@ impl FileSource for Disk<'_> {
     } };
 
     fn read_file(&self, name: &[u8], build_id: &[u8]) -> Result<Option<Vec<u8>>, AllocError> {
-        if is_vdso(name) {
-            return match self.vdso {
-                Some(path) => read_regular(self.rt, path),
-                None => Ok(None),
-            };
-        }
-        if let Some(bytes) = self.read_program(name, build_id)? {
-            return Ok(Some(bytes));
-        }
-        match std::str::from_utf8(name) {
-            Ok(path) => self.read_below_roots(path, build_id),
-            Err(_) => Ok(None),
-        }
+        let Some(read) = self.find_file(name, build_id)? else {
+            self.read_paths.note(self.rt.alloc(), name, build_id, None)?;
+            return Ok(None);
+        };
+        let path = Some(read.path.as_str());
+        self.read_paths.note(self.rt.alloc(), name, build_id, path)?;
+        Ok(Some(read.bytes))
     }
 
     fn read_copied_file(&self, build_id: &[u8]) -> Result<Option<Vec<u8>>, AllocError> {
@@ -89,8 +99,9 @@ impl FileSource for Disk<'_> {
         };
         for name in ["elf", "vdso"] {
             let path = format!(in alloc; "{}/{name}", folder.as_str())?;
-            if let Some(bytes) = read_regular(self.rt, path.as_str())? {
-                return Ok(Some(bytes));
+            if let Some(read) = read_regular(self.rt, path.as_str())? {
+                self.read_paths.note_copy(alloc, read.path.as_str())?;
+                return Ok(Some(read.bytes));
             }
         }
         Ok(None)
@@ -102,13 +113,14 @@ impl FileSource for Disk<'_> {
         build_id: &[u8],
         link: &[u8],
     ) -> Result<Option<Vec<u8>>, AllocError> {
-        if let Some(bytes) = self.read_debug_file_of(build_id)? {
-            return Ok(Some(bytes));
+        let Some(read) = self.find_debug_file(name, build_id, link)? else {
+            return Ok(None);
+        };
+        let alloc = self.rt.alloc();
+        if is_wanted(alloc, read.bytes.as_slice(), build_id)? {
+            self.read_paths.note_debug_file(alloc, read.path.as_str())?;
         }
-        match (std::str::from_utf8(name), std::str::from_utf8(link)) {
-            (Ok(path), Ok(link)) if is_file_name(link) => self.read_linked(path, build_id, link),
-            _ => Ok(None),
-        }
+        Ok(Some(read.bytes))
     }
 }
 
@@ -120,14 +132,52 @@ impl MapSource for Disk<'_> {
             return Ok(None);
         };
         let path = format!(in self.rt.alloc(); "{folder}/perf-{pid}.map")?;
-        read_or_tell(self.rt, path.as_str())
+        read_perf_map(self.rt, path.as_str())
     }
 }
 
 impl Disk<'_> {
+    /// Returns where files were read, in the order of their numbers.
+    pub fn paths_of(&self, files: &Files<'_>) -> Result<Vec<FilePaths>, AllocError> {
+        self.read_paths.of_files(self.rt.alloc(), files)
+    }
+
+    /// Reads a file by its name, a path or `[vdso]`.
+    fn find_file(&self, name: &[u8], build_id: &[u8]) -> Result<Option<ReadFile>, AllocError> {
+        if is_vdso(name) {
+            return match self.vdso {
+                Some(path) => read_regular(self.rt, path),
+                None => Ok(None),
+            };
+        }
+        if let Some(read) = self.read_program(name, build_id)? {
+            return Ok(Some(read));
+        }
+        match std::str::from_utf8(name) {
+            Ok(path) => self.read_below_roots(path, build_id),
+            Err(_) => Ok(None),
+        }
+    }
+
+    /// Reads the debug file of a file by its build id, or else by its link.
+    fn find_debug_file(
+        &self,
+        name: &[u8],
+        build_id: &[u8],
+        link: &[u8],
+    ) -> Result<Option<ReadFile>, AllocError> {
+        if let Some(read) = self.read_debug_file_of(build_id)? {
+            return Ok(Some(read));
+        }
+        match (std::str::from_utf8(name), std::str::from_utf8(link)) {
+            (Ok(path), Ok(link)) if is_file_name(link) => self.read_linked(path, build_id, link),
+            _ => Ok(None),
+        }
+    }
+
     /// Reads the main program in the place of the file of a name: of that with its build id or, where none is wanted, of
     /// that with its name.
-    fn read_program(&self, name: &[u8], build_id: &[u8]) -> Result<Option<Vec<u8>>, AllocError> {
+    fn read_program(&self, name: &[u8], build_id: &[u8]) -> Result<Option<ReadFile>, AllocError> {
         let alloc = self.rt.alloc();
         let Some(program) = &self.program else {
             return Ok(None);
@@ -146,22 +196,29 @@ impl Disk<'_> {
             .known_names
             .allow(alloc, program.path.as_bytes(), name)?
         {
-            Ok(Some(Vec::from_slice(alloc, bytes)?))
+            Ok(Some(ReadFile {
+                path: String::from_str(alloc, program.path)?,
+                bytes: Vec::from_slice(alloc, bytes)?,
+            }))
         } else {
             Ok(None)
         }
     }
 
     /// Reads a file below the first root that has one with the wanted build id, or else below the first that has one.
-    fn read_below_roots(&self, path: &str, build_id: &[u8]) -> Result<Option<Vec<u8>>, AllocError> {
+    fn read_below_roots(
+        &self,
+        path: &str,
+        build_id: &[u8],
+    ) -> Result<Option<ReadFile>, AllocError> {
         let mut first = None;
         for root in self.roots {
-            if let Some(bytes) = self.read_below(root, path)? {
-                if is_wanted(self.rt.alloc(), bytes.as_slice(), build_id)? {
-                    return Ok(Some(bytes));
+            if let Some(read) = self.read_below(root, path)? {
+                if is_wanted(self.rt.alloc(), read.bytes.as_slice(), build_id)? {
+                    return Ok(Some(read));
                 }
                 if first.is_none() {
-                    first = Some(bytes);
+                    first = Some(read);
                 }
             }
         }
@@ -169,15 +226,15 @@ impl Disk<'_> {
     }
 
     /// Reads a file below a root: one of Windows by its path after the drive, or else by its name in the root.
-    fn read_below(&self, root: &str, path: &str) -> Result<Option<Vec<u8>>, AllocError> {
+    fn read_below(&self, root: &str, path: &str) -> Result<Option<ReadFile>, AllocError> {
         let alloc = self.rt.alloc();
         if !is_windows_path(path.as_bytes()) {
             let path = format!(in alloc; "{root}{path}")?;
             return self.read_mapped(root, path.as_str());
         }
         let below = path_below_root(alloc, root, path)?;
-        if let Some(bytes) = self.read_mapped(root, below.as_str())? {
-            return Ok(Some(bytes));
+        if let Some(read) = self.read_mapped(root, below.as_str())? {
+            return Ok(Some(read));
         }
         let inside = path_in_root(alloc, root, path)?;
         self.read_mapped(root, inside.as_str())
@@ -185,8 +242,8 @@ impl Disk<'_> {
 
     /// Reads a file that was mapped, by the path to which links and `..` lead: below the root, if one is named, and else in
     /// none of the folders of files that the kernel makes up. One that was read by many other names is not read.
-    fn read_mapped(&self, root: &str, path: &str) -> Result<Option<Vec<u8>>, AllocError> {
-        let Some(real) = known(fs::canonicalize(self.rt, path))? else {
+    fn read_mapped(&self, root: &str, path: &str) -> Result<Option<ReadFile>, AllocError> {
+        let Some(real) = found(self.rt, path, fs::canonicalize(self.rt, path))? else {
             return Ok(None);
         };
         let alloc = self.rt.alloc();
@@ -213,12 +270,12 @@ impl Disk<'_> {
     }
 
     /// Reads the debug file of a build id below the first folder that has it.
-    fn read_debug_file_of(&self, build_id: &[u8]) -> Result<Option<Vec<u8>>, AllocError> {
+    fn read_debug_file_of(&self, build_id: &[u8]) -> Result<Option<ReadFile>, AllocError> {
         for folder in self.debug_dirs.iter().chain(&[DEBUG_DIR]) {
             let mut path = build_id_path(self.rt.alloc(), folder, build_id)?;
             path.push_str(".debug")?;
-            if let Some(bytes) = read_regular(self.rt, path.as_str())? {
-                return Ok(Some(bytes));
+            if let Some(read) = read_regular(self.rt, path.as_str())? {
+                return Ok(Some(read));
             }
         }
         Ok(None)
@@ -231,25 +288,25 @@ impl Disk<'_> {
         path: &str,
         build_id: &[u8],
         link: &str,
-    ) -> Result<Option<Vec<u8>>, AllocError> {
+    ) -> Result<Option<ReadFile>, AllocError> {
         let alloc = self.rt.alloc();
         let folder = folder_of(path);
         for root in self.roots {
             for inside in ["", ".debug/"] {
                 let path = format!(in alloc; "{root}{folder}/{inside}{link}")?;
-                if let Some(bytes) = self.read_mapped(root, path.as_str())?
-                    && is_wanted(alloc, bytes.as_slice(), build_id)?
+                if let Some(read) = self.read_mapped(root, path.as_str())?
+                    && is_wanted(alloc, read.bytes.as_slice(), build_id)?
                 {
-                    return Ok(Some(bytes));
+                    return Ok(Some(read));
                 }
             }
         }
         for root in self.debug_dirs.iter().chain(&[DEBUG_DIR]) {
             let path = format!(in alloc; "{root}{folder}/{link}")?;
-            if let Some(bytes) = self.read_mapped(root, path.as_str())?
-                && is_wanted(alloc, bytes.as_slice(), build_id)?
+            if let Some(read) = self.read_mapped(root, path.as_str())?
+                && is_wanted(alloc, read.bytes.as_slice(), build_id)?
             {
-                return Ok(Some(bytes));
+                return Ok(Some(read));
             }
         }
         Ok(None)
@@ -264,31 +321,74 @@ fn is_wanted(alloc: Global, file: &[u8], build_id: &[u8]) -> Result<bool, AllocE
 
 /// Reads a regular file of at most 4 GiB, as [`read_object`] does: a recording may name a device or a pipe, whose bytes don't end. A file whose size
 /// is told as 0, as those that a kernel makes up when they are read, is not read.
-fn read_regular(rt: &HostRuntime, path: &str) -> Result<Option<Vec<u8>>, AllocError> {
-    match known(fs::metadata(rt, path))? {
-        Some(metadata)
-            if metadata.is_file() && metadata.len() != 0 && metadata.len() <= LARGEST_FILE => {
-            known(read_object(rt, path, metadata.len()))
+fn read_regular(rt: &HostRuntime, path: &str) -> Result<Option<ReadFile>, AllocError> {
+    match found(rt, path, fs::metadata(rt, path))? {
+        Some(metadata) if metadata.is_file() && metadata.len() > LARGEST_FILE => {
+            refuse_file(rt, path, "larger than 4 GiB, and not read")
+        }
+        Some(metadata) if metadata.is_file() && metadata.len() != 0 => {
+            let Some(bytes) = found(rt, path, read_object(rt, path, metadata.len()))? else {
+                return Ok(None);
+            };
+            Ok(Some(ReadFile {
+                path: String::from_str(rt.alloc(), path)?,
+                bytes,
+            }))
         }
         _ => Ok(None),
     }
 }
 
-/// Reads a regular file, if there is one. Says why one that is there can't be read.
-fn read_or_tell(rt: &HostRuntime, path: &str) -> Result<Option<Vec<u8>>, AllocError> {
-    let read = match fs::metadata(rt, path) {
-        Ok(metadata) if metadata.is_file() => read_sized(rt, path, metadata.len()),
-        Ok(_) => Err(ErrorKind::InvalidInput.into()),
+/// Reads the map of a JIT compiler, if there is one: a regular file of at most 256 MiB that is the user's own or root's, since
+/// anyone may write one of any process. Says why one that is there is not read.
+fn read_perf_map(rt: &HostRuntime, path: &str) -> Result<Option<Vec<u8>>, AllocError> {
+    let metadata = match fs::metadata(rt, path) {
+        Ok(metadata) => metadata,
         Err(error) if error.kind() == ErrorKind::NotFound => return Ok(None),
-        Err(error) => Err(error),
+        Err(error) => return refuse_file(rt, path, error),
     };
-    match read {
-        Err(error) if error.kind() != ErrorKind::OutOfMemory => {
-            known(writeln!(Messages { rt }, "framehop-stacks: {path}: {error}"))?;
-            Ok(None)
-        }
+    if !metadata.is_file() || metadata.len() > LARGEST_MAP {
+        return refuse_file(rt, path, "no regular file of at most 256 MiB");
+    }
+    if metadata.uid() != 0 && Some(metadata.uid()) != user(rt) {
+        return refuse_file(rt, path, "not read, since it belongs to another user");
+    }
+    match read_sized(rt, path, metadata.len()) {
+        Err(error) if error.kind() != ErrorKind::OutOfMemory => refuse_file(rt, path, error),
         read => known(read),
     }
+}
+
+/// Returns what a system gives of a file, or `None` where there is no such file. Where the system refuses it, says why.
+fn found<T: Drop>(
+    rt: &HostRuntime,
+    path: &str,
+    given: io::Result<T>,
+) -> Result<Option<T>, AllocError> {
+    match given {
+        Ok(given) => Ok(Some(given)),
+        Err(error) => match error.kind() {
+            ErrorKind::OutOfMemory => Err(AllocError),
+            ErrorKind::NotFound | ErrorKind::NotADirectory => Ok(None),
+            _ => refuse_file(rt, path, error),
+        },
+    }
+}
+
+/// Says why a file is not read.
+fn refuse_file<T: Drop, D: Display + Drop>(
+    rt: &HostRuntime,
+    path: &str,
+    why: D,
+) -> Result<Option<T>, AllocError> {
+    known(writeln!(Messages { rt }, "framehop-stacks: {}: {why}", Printed(path)))?;
+    Ok(None)
+}
+
+/// Returns the number of the user who runs the program, if the system tells it.
+fn user(rt: &HostRuntime) -> Option<u32> {
+    let metadata = fs::metadata(rt, "/proc/self").ok()?;
+    Some(metadata.uid())
 }
 
 /// Returns what a system gives of a file, or `None` where it refuses that. It fails where memory runs out.

@@ -1,6 +1,6 @@
 //! The events of a recording that are asked for.
 use crate::messages::Messages;
-use framehop_cli::Result;
+use framehop_cli::{Printed, Result};
 use framehop_frames::line::printed_name;
 use framehop_perf_stacks::event_choice::events_asked;
 use framehop_recording::event_names::read_event_names;
@@ -55,7 +55,7 @@ fn tell_events(rt: &HostRuntime, path: &str, wanted: &str, names: &[&[u8]]) -> R
     }
     line.push(b'\n')?;
     let mut err = Messages { rt };
-    write!(err, "framehop-stacks: {path}: ")?;
+    write!(err, "framehop-stacks: {}: ", Printed(path))?;
     err.write_all(line.as_slice())?;
     Ok(())
 }

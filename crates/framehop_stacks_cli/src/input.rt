@@ -1,6 +1,6 @@
 //! The bytes of files and of standard input, and what they are.
 use crate::messages::Messages;
-use framehop_cli::Result;
+use framehop_cli::{Printed, Result};
 use framehop_folded::text::is_text;
 use std::alloc::Global;
 use std::fs::File;
@@ -23,6 +23,8 @@ pub enum Kind {
     Folded,
     /// A file that is compressed, by the program that undoes it.
     Compressed(&'static str),
+    /// Nothing that is read.
+    Unknown,
 }
 
 /// Returns what a file is, by its first bytes.
@@ -37,10 +39,12 @@ pub fn kind_of(bytes: &[u8]) -> Kind {
         Kind::Compressed("zstd -d")
     } else if bytes.starts_with(b"\xfd7zXZ\0") {
         Kind::Compressed("xz -d")
-    } else if is_text(bytes) && !bytes.starts_with(b"PERFILE2") {
+    } else if bytes.starts_with(b"PERFILE2") {
+        Kind::Recording
+    } else if is_text(bytes) {
         Kind::Folded
     } else {
-        Kind::Recording
+        Kind::Unknown
     }
 }
 
@@ -58,7 +62,8 @@ pub fn read_input(rt: &HostRuntime, path: &str) -> Result<Result<Vec<u8>, u8>> {
             Ok(_) => {
                 writeln!(
                     Messages { rt },
-                    "framehop-stacks: {path}: not a regular file; for standard input write -"
+                    "framehop-stacks: {}: not a regular file; for standard input write -",
+                    Printed(path)
                 )?;
                 return Ok(Err(1));
             }
@@ -69,7 +74,11 @@ pub fn read_input(rt: &HostRuntime, path: &str) -> Result<Result<Vec<u8>, u8>> {
         Ok(bytes) => Ok(Ok(bytes)),
         Err(error) => {
             let name = name_of(path);
-            writeln!(Messages { rt }, "framehop-stacks: {name}: {error}")?;
+            writeln!(
+                Messages { rt },
+                "framehop-stacks: {}: {error}",
+                Printed(name)
+            )?;
             let status = if error.kind() == ErrorKind::OutOfMemory {
                 2
             } else {
@@ -130,7 +139,8 @@ pub fn announce(rt: &HostRuntime, path: &str, size: u64) -> Result<()> {
         let megabytes = size / 1_000_000;
         writeln!(
             Messages { rt },
-            "framehop-stacks: {path}: reading {megabytes} MB"
+            "framehop-stacks: {}: reading {megabytes} MB",
+            Printed(path)
         )?;
     }
     Ok(())

@@ -12,6 +12,8 @@ mod known_names;
 mod messages;
 mod object_parts;
 mod printed;
+mod read_paths;
+mod recording_json;
 mod recording_parts;
 mod recordings;
 mod speedscope;
@@ -20,11 +22,12 @@ use arguments::{Asked, command, drawing, options, samples_asked};
 use clap::ArgMatches;
 use cores::{print_core, print_core_parts};
 use disk::{Disk, Program, files_at, is_recording_by_threads};
-use framehop_cli::{Result, exit_code};
-use framehop_dump_json::json::Json;
+use framehop_cli::{Printed, Result, StandardOutput, exit_code, usage};
+use framehop_dump_json::dump_report::Json;
 use framehop_dump_stacks::error::DumpStacksError;
+use framehop_dump_stacks::minidump::{read_minidump, read_parts};
 use framehop_dump_stacks::program::write_minidump_stacks;
-use framehop_dump_stacks::reporting::report_minidump_stacks;
+use framehop_dump_stacks::reporting::report_dump_stacks;
 use framehop_flame_graph::drawing::Drawing;
 use framehop_flame_graph::error::FlameGraphError;
 use framehop_flame_graph::svg::{change_graph, flame_graph};
@@ -40,10 +43,12 @@ use input::{Kind, kind_of, name_of, read_input};
 use known_names::KnownNames;
 use messages::Messages;
 use printed::printed_text;
+use read_paths::ReadPaths;
 use recordings::{print_recording, print_recording_parts};
 use speedscope::speedscope_file;
+use std::alloc::Global;
 use std::cell::Cell;
-use std::io::{BufWriter, Write};
+use std::io::{BufWriter, ErrorKind, Write};
 use std::path::PathBuf;
 use std::process::ExitCode;
 use std::{env, fs, io};
@@ -59,7 +64,7 @@ enum Form<'a> {
     Speedscope(&'a str),
     /// Their lines beside those of others.
     Changes,
-    /// JSON of core files and minidumps.
+    /// JSON.
     Json,
 }
 
@@ -113,9 +118,10 @@ fn run(rt: &HostRuntime) -> Result<u8> {
         buildid_dir: matches.get_str("buildid-dir"),
         home: home(rt),
         vdso: matches.get_str("vdso"),
-        perf_map: matches.get_str("perf-map"),
+        perf_map: perf_map(&matches),
         program,
         known_names: KnownNames::new(alloc),
+        read_paths: ReadPaths::new(alloc),
     };
     let paths = matches.get_strs("file").unwrap_or(&[]);
     let form = if matches.get_flag("svg") {
@@ -163,12 +169,6 @@ fn tell_unmapped(rt: &HostRuntime, program: Option<&Program<'_>>) -> Result<()> 
     }
 }
 
-/// Prints the help, the version or the error of a command line.
-fn usage(rt: &HostRuntime, error: &clap::Error) -> Result<u8> {
-    error.print(rt)?;
-    if error.use_stderr() { Ok(2) } else { Ok(0) }
-}
-
 /// Returns which options do not go together, if some do not.
 fn misuse_of_options(matches: &ArgMatches<'_>, options: Options<'_>) -> Option<&'static str> {
     if matches.get_flag("demangle") {
@@ -196,10 +196,12 @@ fn misuse_of_options(matches: &ArgMatches<'_>, options: Options<'_>) -> Option<&
         Some("a title is that of a flame graph or of a profile: --svg or --speedscope")
     } else if matches.get_flag("diff") && options.frames {
         Some("only folded stacks are compared, and no blocks of frames")
-    } else if matches.get_flag("json") && (matches.get_flag("svg") || matches.get_flag("diff")) {
+    } else if matches.get_flag("json")
+        && (matches.get_flag("svg") || matches.get_flag("diff") || matches.get_flag("speedscope"))
+    {
         Some("only folded stacks are drawn and compared, and no JSON")
-    } else if matches.get_flag("json") && options.frames {
-        Some("JSON has all frames, and no notes")
+    } else if options.json && (options.explain || options.sure || options.kernel.is_some()) {
+        Some("JSON has all frames of the user's side, with how each was found, and no notes")
     } else {
         None
     }
@@ -213,8 +215,13 @@ fn kernel_names(rt: &HostRuntime, matches: &ArgMatches<'_>) -> Result<Option<Ker
     };
     let text = match fs::read(rt, path) {
         Ok(text) => text,
+        Err(error) if error.kind() == ErrorKind::OutOfMemory => return Err(error.into()),
         Err(error) => {
-            writeln!(Messages { rt }, "framehop-stacks: {path}: {error}")?;
+            writeln!(
+                Messages { rt },
+                "framehop-stacks: {}: {error}",
+                Printed(path)
+            )?;
             return Ok(None);
         }
     };
@@ -222,11 +229,22 @@ fn kernel_names(rt: &HostRuntime, matches: &ArgMatches<'_>) -> Result<Option<Ker
     if names.by_start.is_empty() {
         writeln!(
             Messages { rt },
-            "framehop-stacks: {path}: it has no function with an address; /proc/kallsyms tells them to root"
+            "framehop-stacks: {}: it has no function with an address; /proc/kallsyms tells them to root",
+            Printed(path)
         )?;
         return Ok(None);
     }
     Ok(Some(names))
+}
+
+/// Returns the folder of the maps that JIT compilers write: the one that is named, or where they write them on this machine,
+/// if its files are those that are looked for.
+fn perf_map<'a>(matches: &ArgMatches<'a>) -> Option<&'a str> {
+    match (matches.get_str("perf-map"), matches.get_str("root")) {
+        (Some(folder), _) => Some(folder),
+        (None, None) => Some("/tmp"),
+        (None, Some(_)) => None,
+    }
 }
 
 /// Returns whether a path is that of a folder.
@@ -272,7 +290,7 @@ fn print_changes(
 
 /// Writes the lines of folded stacks beside one another.
 fn write_changes(rt: &HostRuntime, changes: &Changes) -> Result<(), StacksError> {
-    let mut out = BufWriter::new(rt.alloc(), io::writer(rt))?;
+    let mut out = BufWriter::new(rt.alloc(), StandardOutput { rt })?;
     changes.write(&mut out)?;
     io::Write::flush(&mut out)?;
     Ok(())
@@ -295,7 +313,7 @@ fn print_all(
     if options.frames || matches!(form, Form::Json) {
         return Ok(status);
     }
-    Ok(status.max(print_folded(rt, &folded, form)?))
+    Ok(status.max(print_folded(rt, &folded, form, options.by_thread)?))
 }
 
 /// Prints the stacks of a file or of a folder's recordings, or adds them to the folded stacks so far. Returns the greatest
@@ -312,14 +330,19 @@ fn print_path(
     let files = match files_at(rt, path) {
         Ok(files) => files,
         Err(error) => {
-            writeln!(Messages { rt }, "framehop-stacks: {path}: {error}")?;
+            writeln!(
+                Messages { rt },
+                "framehop-stacks: {}: {error}",
+                Printed(path)
+            )?;
             return Ok(1);
         }
     };
     if files.left_out > 0 {
         writeln!(
             Messages { rt },
-            "framehop-stacks: {path}: {} of its files left out: their names are no UTF-8",
+            "framehop-stacks: {}: {} of its files left out: their names are no UTF-8",
+            Printed(path),
             files.left_out
         )?;
     }
@@ -329,7 +352,7 @@ fn print_path(
         } else {
             "no file in it has a name in .data"
         };
-        writeln!(Messages { rt }, "framehop-stacks: {path}: {why}")?;
+        writeln!(Messages { rt }, "framehop-stacks: {}: {why}", Printed(path))?;
         return Ok(1);
     }
     let mut status = 0;
@@ -375,17 +398,24 @@ fn print_stacks(
         Kind::Compressed(program) => {
             writeln!(
                 Messages { rt },
-                "framehop-stacks: {path}: a compressed file; {program} makes one that can be read"
+                "framehop-stacks: {}: a compressed file; {program} makes one that can be read",
+                Printed(path)
             )?;
             Ok(1)
         }
-        Kind::Recording => print_recording(rt, path, bytes, disk, asked, options, folded),
+        Kind::Recording | Kind::Unknown => {
+            print_recording(rt, path, bytes, disk, asked, options, folded)
+        }
     }
 }
 
 /// Says why a file is not printed as it is asked for, and returns the status.
 fn say_misuse(rt: &HostRuntime, path: &str, misuse: &str) -> Result<u8> {
-    writeln!(Messages { rt }, "framehop-stacks: {path}: {misuse}")?;
+    writeln!(
+        Messages { rt },
+        "framehop-stacks: {}: {misuse}",
+        Printed(path)
+    )?;
     Ok(2)
 }
 
@@ -398,9 +428,7 @@ fn misuse_of(kind: Kind, options: Options<'_>, form: Form<'_>) -> Option<&'stati
         (Kind::Core | Kind::Minidump, Form::Changes) => {
             Some("only recordings and folded stacks are compared")
         }
-        (Kind::Recording | Kind::Folded, Form::Json) => {
-            Some("only core files and minidumps are printed as JSON")
-        }
+        (Kind::Folded, Form::Json) => Some("folded stacks have no addresses, and no JSON"),
         (Kind::Core | Kind::Minidump, _) if options.sure => { Some("only recordings are folded") }
         (Kind::Folded, _) if options.frames => Some("folded stacks have no blocks of frames"),
         (Kind::Folded, _) if options.sure => Some("folded stacks don't say what is sure"),
@@ -419,12 +447,10 @@ fn print_minidump(
 ) -> Result<u8> {
     let alloc = rt.alloc();
     let Options { limit, explain, .. } = options;
-    let mut out = BufWriter::new(alloc, io::writer(rt))?;
+    let mut out = BufWriter::new(alloc, StandardOutput { rt })?;
     let mut said = Vec::new(alloc);
     let written = match form {
-        Form::Json => {
-            report_minidump_stacks(alloc, bytes, disk, limit, &Json, &mut out, &mut said)
-        }
+        Form::Json => report_minidump(alloc, bytes, disk, limit, &mut out, &mut said),
         _ => write_minidump_stacks(alloc, bytes, disk, limit, explain, &mut out, &mut said),
     };
     io::Write::flush(&mut out)?;
@@ -432,12 +458,34 @@ fn print_minidump(
     status_of(rt, path, written)
 }
 
+/// Writes the JSON of a minidump, by its bytes, and then what was missing.
+fn report_minidump<W: Write, E: Write>(
+    alloc: Global,
+    bytes: &[u8],
+    disk: &Disk<'_>,
+    limit: u32,
+    out: &mut W,
+    said: &mut E,
+) -> Result<(), DumpStacksError> {
+    let parts = read_parts(alloc, bytes)?;
+    let (dump, files) = read_minidump(alloc, bytes, &parts, disk)?;
+    let paths = disk.paths_of(&files)?;
+    let json = Json {
+        paths: paths.as_slice(),
+    };
+    report_dump_stacks(alloc, &dump, &files, limit, &json, out, said)
+}
+
 /// Returns the status for what was written of a core file or a minidump, and prints why it was refused, if it was.
 fn status_of(rt: &HostRuntime, path: &str, written: Result<(), DumpStacksError>) -> Result<u8> {
     match written {
         Ok(()) => Ok(0),
         Err(error) => {
-            writeln!(Messages { rt }, "framehop-stacks: {path}: {error}")?;
+            writeln!(
+                Messages { rt },
+                "framehop-stacks: {}: {error}",
+                Printed(path)
+            )?;
             match error {
                 DumpStacksError::OutOfMemory | DumpStacksError::GenerationsExhausted => Ok(2),
                 _ => Ok(1),
@@ -449,7 +497,7 @@ fn status_of(rt: &HostRuntime, path: &str, written: Result<(), DumpStacksError>)
 /// Adds the folded stacks of a text to those so far, if all of its lines can be read.
 fn add_folded(rt: &HostRuntime, path: &str, text: &[u8], folded: &mut Folded) -> Result<u8> {
     if text.is_empty() {
-        writeln!(Messages { rt }, "framehop-stacks: {path}: empty")?;
+        writeln!(Messages { rt }, "framehop-stacks: {}: empty", Printed(path))?;
         return Ok(1);
     }
     let lines = match read_folded(rt.alloc(), text) {
@@ -471,7 +519,11 @@ fn add_folded(rt: &HostRuntime, path: &str, text: &[u8], folded: &mut Folded) ->
 
 /// Prints why the counts of folded stacks can't be added.
 fn refuse_count(rt: &HostRuntime, path: &str, error: FoldedError) -> Result<u8> {
-    writeln!(Messages { rt }, "framehop-stacks: {path}: {error}")?;
+    writeln!(
+        Messages { rt },
+        "framehop-stacks: {}: {error}",
+        Printed(path)
+    )?;
     Ok(match error {
         FoldedError::OutOfMemory => 2,
         FoldedError::CountTooLarge => 1,
@@ -487,24 +539,37 @@ fn refuse_line(rt: &HostRuntime, path: &str, text: &[u8], error: TextError) -> R
             "after its last blank there is no decimal count below 2^64",
         ),
         TextError::OutOfMemory => {
-            writeln!(Messages { rt }, "framehop-stacks: {path}: {error}")?;
+            writeln!(
+                Messages { rt },
+                "framehop-stacks: {}: {error}",
+                Printed(path)
+            )?;
             return Ok(2);
         }
     };
     let line = line_number(text, offset);
     writeln!(
         Messages { rt },
-        "framehop-stacks: {path}: line {line} is no folded stack: {cause}"
+        "framehop-stacks: {}: line {line} is no folded stack: {cause}",
+        Printed(path)
     )?;
     Ok(1)
 }
 
 /// Prints the folded stacks of all recordings, or draws them, and returns the status.
-fn print_folded(rt: &HostRuntime, folded: &Folded, form: Form<'_>) -> Result<u8> {
+fn print_folded(rt: &HostRuntime, folded: &Folded, form: Form<'_>, by_thread: bool) -> Result<u8> {
     match form {
         Form::Graph(drawing) => print_graph(rt, flame_graph(rt.alloc(), folded, drawing)),
+        Form::Speedscope(_) if folded.iter().next().is_none() => {
+            writeln!(
+                Messages { rt },
+                "framehop-stacks: {}",
+                FlameGraphError::NothingCounted
+            )?;
+            Ok(1)
+        }
         Form::Speedscope(title) => {
-            let file = speedscope_file(rt.alloc(), folded, title)?;
+            let file = speedscope_file(rt.alloc(), folded, title, by_thread)?;
             status_of_output(rt, write_graph(rt, file.as_str()))
         }
         _ => status_of_output(rt, write_lines(rt, folded)),
@@ -541,13 +606,13 @@ fn status_of_output(rt: &HostRuntime, written: Result<(), StacksError>) -> Resul
 
 /// Writes a flame graph.
 fn write_graph(rt: &HostRuntime, graph: &str) -> Result<(), StacksError> {
-    io::writer(rt).write_all(graph.as_bytes())?;
+    StandardOutput { rt }.write_all(graph.as_bytes())?;
     Ok(())
 }
 
 /// Writes the lines of folded stacks.
 fn write_lines(rt: &HostRuntime, folded: &Folded) -> Result<(), StacksError> {
-    let mut out = BufWriter::new(rt.alloc(), io::writer(rt))?;
+    let mut out = BufWriter::new(rt.alloc(), StandardOutput { rt })?;
     folded.write(&mut out)?;
     io::Write::flush(&mut out)?;
     Ok(())

@@ -2,7 +2,8 @@
 //! debugging.
 use crate::input::{read_at, read_front, read_sized};
 use framehop_elf::header::{FileHeader, read_file_header};
-use framehop_elf::program_header::read_program_headers;
+use framehop_elf::program_header::{PT_NOTE, read_program_headers};
+use framehop_elf::section::SHT_NOBITS;
 use framehop_elf::section_header::{SectionHeader, read_section_headers};
 use framehop_symbols::object_file::build_id_of;
 use std::alloc::Global;
@@ -36,14 +37,8 @@ const SH_SIZE: u64 = 32;
 /// `SHT_PROGBITS`.
 const SHT_PROGBITS: u32 = 1;
 
-/// `SHT_NOBITS`.
-const SHT_NOBITS: u32 = 8;
-
 /// `SHF_EXECINSTR`.
 const SHF_EXECINSTR: u64 = 4;
-
-/// `PT_NOTE`.
-pub const PT_NOTE: u32 = 4;
 
 /// `PF_X`.
 const PF_X: u32 = 1;

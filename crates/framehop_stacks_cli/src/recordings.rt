@@ -4,9 +4,10 @@ use crate::disk::Disk;
 use crate::events::numbers_of_events;
 use crate::input::{Kind, announce};
 use crate::messages::Messages;
+use crate::recording_json::{write_json_of, write_recording_json};
 use crate::recording_parts::RecordingParts;
 use crate::{Form, misuse_of, refuse_count, say_misuse};
-use framehop_cli::Result;
+use framehop_cli::{Printed, Result, StandardOutput};
 use framehop_folded::folded::Folded;
 use framehop_perf_stacks::choice::{Choice, choose};
 use framehop_perf_stacks::error::StacksError;
@@ -102,14 +103,24 @@ fn print_kept(
         return Ok(None);
     };
     let bodies = parts.bodies();
-    let mut out = BufWriter::new(alloc, io::writer(rt))?;
+    let mut out = BufWriter::new(alloc, StandardOutput { rt })?;
     let mut err = Messages { rt };
-    let unwound = write_recording_stacks(
-        alloc, &recording, disk, &bodies, options, &mut out, &mut err,
-    );
+    let unwound = if options.json {
+        write_recording_json(
+            alloc, &recording, disk, &bodies, options, &mut out, &mut err,
+        )
+    } else {
+        write_recording_stacks(
+            alloc, &recording, disk, &bodies, options, &mut out, &mut err,
+        )
+    };
     io::Write::flush(&mut out)?;
     if let Some(error) = bodies.failure() {
-        writeln!(Messages { rt }, "framehop-stacks: {path}: {error}")?;
+        writeln!(
+            Messages { rt },
+            "framehop-stacks: {}: {error}",
+            Printed(path)
+        )?;
         return Ok(Some(1));
     }
     Ok(Some(add_unwound(rt, path, unwound, folded)?))
@@ -126,7 +137,7 @@ pub fn print_recording(
     folded: &mut Folded,
 ) -> Result<u8> {
     let alloc = rt.alloc();
-    let mut out = BufWriter::new(alloc, io::writer(rt))?;
+    let mut out = BufWriter::new(alloc, StandardOutput { rt })?;
     let mut err = Messages { rt };
     let header = read_header(bytes).ok();
     let names = asked.events.as_slice();
@@ -134,7 +145,11 @@ pub fn print_recording(
         return Ok(1);
     };
     let choice = choice_of(asked, events.as_slice());
-    let unwound = write_stacks(alloc, bytes, disk, &choice, options, &mut out, &mut err);
+    let unwound = if options.json {
+        write_json_of(alloc, bytes, disk, &choice, options, &mut out, &mut err)
+    } else {
+        write_stacks(alloc, bytes, disk, &choice, options, &mut out, &mut err)
+    };
     io::Write::flush(&mut out)?;
     add_unwound(rt, path, unwound, folded)
 }
@@ -175,7 +190,11 @@ fn add_unwound(
 
 /// Prints why a recording gives no stacks, or no more of them.
 fn refuse(rt: &HostRuntime, path: &str, error: StacksError) -> Result<u8> {
-    writeln!(Messages { rt }, "framehop-stacks: {path}: {error}")?;
+    writeln!(
+        Messages { rt },
+        "framehop-stacks: {}: {error}",
+        Printed(path)
+    )?;
     match error {
         StacksError::OutOfMemory | StacksError::GenerationsExhausted => Ok(2),
         _ => Ok(1),

@@ -43,7 +43,7 @@ returns-clause-made g c = elim c.match-and.branch [
             (
               c.take_records-taken.new.self.counts,
               summed told.0 _ c.in_ok-run.run'.counts c.take_records-taken.new.self.counts told.2.0
-                  (c.in_ok-run.ensures.none c.args.options.frames).samples (omega (arith, (c.in_ok-run.ensures.none c.args.options.frames).unsure)) (omega (arith, (c.in_ok-run.ensures.none c.args.options.frames).cut))
+                  (c.in_ok-run.ensures.none c.args.options.frames).samples (omega (arith, (c.in_ok-run.ensures.none c.args.options.frames).unsure)) (omega (arith, (c.in_ok-run.ensures.none c.args.options.frames).guessed)) (omega (arith, (c.in_ok-run.ensures.none c.args.options.frames).cut)) (omega (arith, (c.in_ok-run.ensures.none c.args.options.frames).in_vdso))
                   c.in_ok-run.ensures.endless
                   (both_ok c.write_counts-counted.result c.take_records-taken.result _ both c.take_records-taken.ensures.lost
                   ∙ ap (lost_over (records_in c.args.recording.now.records.items)) c.in_ok-run.ensures.unlost ∙ sym (all.3 0))
@@ -91,7 +91,7 @@ returns-clause-before g c = elim c.match-and.branch [
           (
             c.take_records-taken.new.self.counts,
             summed told.0 _ c.in_ok-run.run'.counts c.take_records-taken.new.self.counts told.2.0
-                (c.in_ok-run.ensures.none c.args.options.frames).samples (omega (arith, (c.in_ok-run.ensures.none c.args.options.frames).unsure)) (omega (arith, (c.in_ok-run.ensures.none c.args.options.frames).cut))
+                (c.in_ok-run.ensures.none c.args.options.frames).samples (omega (arith, (c.in_ok-run.ensures.none c.args.options.frames).unsure)) (omega (arith, (c.in_ok-run.ensures.none c.args.options.frames).guessed)) (omega (arith, (c.in_ok-run.ensures.none c.args.options.frames).cut)) (omega (arith, (c.in_ok-run.ensures.none c.args.options.frames).in_vdso))
                 c.in_ok-run.ensures.endless
                 (c.take_records-taken.ensures.lost_before refusal taken
                 ∙ ap (lost_over (before_refusal (records_in c.args.recording.now.records.items))) c.in_ok-run.ensures.unlost ∙ sym (all.3 0))

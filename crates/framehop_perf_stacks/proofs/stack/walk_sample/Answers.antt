@@ -1,5 +1,5 @@
 -- The stack of a sample is that from its registers on, by the modules of its process, over the bytes that were copied.
-use Rattle.std.proofs.Common.{◌∙◌, sym, rules, Some, None, ap, false}
+use Rattle.std.proofs.Common.{◌∙◌, sym, rules, Some, ap, false}
 use Rattle.framehop_core.specs.CodeAddress.{FrameLocation}
 use Rattle.framehop.specs.Modules.{UnwinderView}
 use Rattle.framehop.specs.StackBytes.{memory_of_bytes}
@@ -7,6 +7,7 @@ use Rattle.framehop_backtrace.specs.Rows.{Finding, or_else}
 use Rattle.framehop_frames.specs.Code.{bytes_after, code_of}
 use Rattle.framehop_frames.specs.Notes.{noted_from, NotedStack}
 use Rattle.framehop_frames.specs.Rows.{debug_rows, rows_in}
+use Rattle.framehop_frames.specs.Walker.{row_limits}
 use Rattle.framehop_frames.specs.Stack.{stack_from}
 use Rattle.framehop_perf_stacks.specs.Samples.{sampled_from, noted_sample}
 use Rattle.framehop_perf_stacks.proofs.stack.walk_sample.Goals as goal
@@ -24,7 +25,7 @@ returns-clause-walked g c = λ sound.
     let view = g.U.Unwinder.unwinder_view unwinder in
     let rows-are = g.met.U.Steps.rows_by_modules unwinder in
     let walked = c.in_ok-stack.ensures.walked (search rules) in
-    let by-rows = ap (λ (rows : FrameLocation → Finding). stack_from walker c.args.limit view.modules (λ location. or_else (rows location) (debug_rows (walker.row_in None) files mappings location)) memory code start) rows-are in
+    let by-rows = ap (λ (rows : FrameLocation → Finding). stack_from walker c.args.limit view.modules (λ location. or_else (rows location) (debug_rows (walker.row_in row_limits) files mappings location)) memory code start) rows-are in
     let by-view = ap (λ (v : UnwinderView). stack_from walker c.args.limit v.modules (rows_in walker files mappings v.modules) memory code start) c.unwinder-unwinder.ensures in
     walked ∙ by-rows ∙ by-view ∙ ap (sampled_from walker c.args.limit files mappings process.unwinder.modules c.args.copied.now) (sym c.in-Some.is)
 
@@ -41,7 +42,7 @@ returns-clause-noted g c = λ sound.
     let view = g.U.Unwinder.unwinder_view unwinder in
     let rows-are = g.met.U.Steps.rows_by_modules unwinder in
     let noted = c.in_ok-stack.ensures.noted (search rules) in
-    let by-rows = ap (λ (rows : FrameLocation → Finding). noted_from walker c.args.limit view.modules (λ location. or_else (rows location) (debug_rows (walker.row_in None) files mappings location)) memory code start) rows-are in
+    let by-rows = ap (λ (rows : FrameLocation → Finding). noted_from walker c.args.limit view.modules (λ location. or_else (rows location) (debug_rows (walker.row_in row_limits) files mappings location)) memory code start) rows-are in
     let by-view = ap (λ (v : UnwinderView). noted_from walker c.args.limit v.modules (rows_in walker files mappings v.modules) memory code start) c.unwinder-unwinder.ensures in
     ap (λ (stack : NotedStack g.row.U-UnwindRegs.Denot). Some stack) (noted ∙ by-rows ∙ by-view)
     ∙ ap (noted_sample walker c.args.limit files mappings process.unwinder.modules c.args.copied.now) (sym c.in-Some.is)

@@ -17,7 +17,7 @@ returns-in_ok-take_refused-in-None-clause-taken g c =
     let Taken : List ℕ → SampleStack → Type 0 = λ known stack. IsTaken c.args.options.frames
     (told_by c.args.options c.args.files.now known (Some c.args.sample) mappings stack [])
     c.args.self.now.counts c.take_refused.new.counts (g.W.Write.contents c.args.out.now) (g.W.Write.contents c.take_refused.new.out) in
-    let named = subst (λ known. Taken known (of_walk (no_stack c.refusal_name.result.now))) c.get-name.ensures
-    (c.in_ok-take_refused-in-None.ensures.taken c.args.files.now mappings) in
-    let why = subst (λ text. Taken name (of_walk (no_stack text))) c.refusal_name.ensures named in
+    let named = subst (λ known. Taken known (of_walk 0 (no_stack c.refusal_name.result.now))) c.get-name.ensures
+    (c.in_ok-take_refused-in-None.ensures.taken c.args.files.now mappings 0) in
+    let why = subst (λ text. Taken name (of_walk 0 (no_stack text))) c.refusal_name.ensures named in
     subst (λ shown. Taken name (unread_stack c.args.refusal shown)) (sym none) why

@@ -1,4 +1,4 @@
-use Rattle.std.proofs.Common.{◌≡◌, ℕ, List, map, Ok, ap, sym, subst}
+use Rattle.std.proofs.Common.{◌≡◌, ℕ, List, map, Ok, ap, ◌∙◌, sym, subst}
 use Rattle.std.specs.Prelude.{◌&&◌, Option}
 use Rattle.framehop.specs.Modules.{ModuleView, UnwinderView}
 use Rattle.framehop_frames.specs.Notes.{NotedStack, option_noted, AreStackNotes}
@@ -6,7 +6,7 @@ use Rattle.framehop_frames.specs.Stack.{option_stack_view}
 use Rattle.framehop_processes.specs.declared.mapping.Mapping.{Mapping}
 use Rattle.framehop_recording.specs.Sample.{user_view, read_chain_view}
 use Rattle.framehop_perf_stacks.specs.Processes.{mapped_in}
-use Rattle.framehop_perf_stacks.specs.Samples.{of_walk, copied_memory, NotedIf, IsUserStack}
+use Rattle.framehop_perf_stacks.specs.Samples.{of_walk, base_of, copied_memory, NotedIf, IsUserStack}
 use Rattle.framehop_perf_stacks.proofs.ServedLemmas.{served-after, fit-known, modules-known}
 use Rattle.framehop_perf_stacks.proofs.run.Run.take_user.Goals as goal
 
@@ -26,7 +26,9 @@ returns-clause-told g c = λ module_of served.
     let modules = modules-known module_of _ _ _ c.known-process.ensures.known.0 process (mapped_in c.args.self.now.processes.by_pid pid) mapped c.known-process.ensures.known.1 served in
     let explained = c.args.options.frames && c.args.options.explain in
     let start = c.start-start.result in
-    let stack = of_walk (option_stack_view c.in_ok-walked.walked) in
+    let stack = of_walk c.base_of.result (option_stack_view c.in_ok-walked.walked) in
+    let walked = ap (λ base. of_walk base (option_stack_view c.in_ok-walked.walked)) c.base_of.ensures
+    ∙ ap (of_walk (base_of start)) (c.in_ok-walked.ensures.walked fit.sound) in
     let notes = c.as_slice.result.now in
     let memory = copied_memory c.args.user.stack.now start in
     let by-view = subst (λ (view : UnwinderView). NotedIf explained (AreStackNotes (g.U.Steps.is_note view.modules memory) (option_noted c.in_ok-walked.walked)) notes)
@@ -41,7 +43,7 @@ returns-clause-told g c = λ module_of served.
         notes,
         subst (λ mappings. Told mappings (map module_of (mapped_in c.args.self.now.processes.by_pid pid))) mapped
             (subst (Told process.mappings) modules
-            (start, c.start-start.ensures process.unwinder.modules (sym c.greatest_end.ensures), ap of_walk (c.in_ok-walked.ensures.walked fit.sound), noted)),
+            (start, c.start-start.ensures process.unwinder.modules (sym c.greatest_end.ensures), walked, noted)),
         c.in_ok-take_walked.ensures.taken,
       ),
     )

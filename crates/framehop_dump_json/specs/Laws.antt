@@ -1,0 +1,2 @@
+-- Lemmas that the trait's law is.
+pub mod Parts

@@ -1,0 +1,18 @@
+use Rattle.std.proofs.Common.{◌≡◌, map, ap, ◌∙◌}
+use Rattle.serde_json.specs.Data.{array}
+use Rattle.serde_json.specs.View.{view, items_of}
+use Rattle.serde_json.specs.Written.{has_float}
+use Rattle.framehop_frames.proofs.FloatLemmas.{frames-none}
+use Rattle.framehop_frames.specs.JsonFrames.{frames_data}
+use Rattle.framehop_frames.specs.Stack.{shown_frame}
+use Rattle.framehop_perf_stacks.proofs.sample_json.walked_json.Goals as goal
+
+pub returns : goal.returns
+returns g c =
+    let files = c.args.files.now in
+    let mappings = c.args.mappings.now in
+    let frames = c.args.stack.now.frames.items in
+    let are : view c.in_ok-frames.frames ≡ array (items_of (frames_data files mappings (map shown_frame frames))) =
+    c.in_ok-frames.ensures ∙ ap (λ list. array (items_of (frames_data files mappings (map shown_frame list)))) c.as_slice.ensures.value in
+    let made = c.json_text.ensures (ap has_float are ∙ frames-none files mappings (map shown_frame frames)) in
+    rw (are, c.end_name.ensures, c.address_of_end-end_address.ensures) at made
