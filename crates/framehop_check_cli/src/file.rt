@@ -12,20 +12,15 @@ use framehop_check::report::{Counts, Report};
 use framehop_code::aarch64::CodeAarch64;
 use framehop_code::effect::Code;
 use framehop_code::x86_64::CodeX86_64;
+use framehop_elf::decompressed::{ContentsError, read_decompressed};
 use framehop_elf::error::ElfError;
-use framehop_elf::header::{FileHeader, read_file_header};
+use framehop_elf::header::{EM_AARCH64, EM_X86_64, read_file_header};
 use framehop_elf::section::{read_contents, read_section_names, section_by_name};
 use framehop_elf::section_header::{SectionHeader, read_section_headers};
 use framehop_elf::symbol::{SymbolTable, read_function_symbols, read_symbol_names};
 use framehop_pe_file::error::PeError;
 use std::alloc::{AllocError, Global};
 use std::fmt;
-
-/// `EM_X86_64`.
-const EM_X86_64: u16 = 62;
-
-/// `EM_AARCH64`.
-const EM_AARCH64: u16 = 183;
 
 /// `SHF_EXECINSTR`.
 const SHF_EXECINSTR: u64 = 4;
@@ -47,6 +42,8 @@ pub struct Options {
 pub enum Refusal {
     /// It is no ELF file, or a damaged one.
     Elf(ElfError),
+    /// Its rows can't be read.
+    Rows(ContentsError),
     /// Its machine is neither x86_64 nor aarch64.
     Machine(u16),
     /// It has neither `.eh_frame` nor `.debug_frame`.
@@ -59,10 +56,27 @@ pub enum Refusal {
     NoFunctionTable,
 }
 
+impl From<ElfError> for Refusal {
+    fn from(value: ElfError) -> Self {
+        Refusal::Elf(value)
+    }
+}
+
+impl From<ContentsError> for Refusal {
+    fn from(value: ContentsError) -> Self {
+        match value {
+            ContentsError::OutOfMemory => Refusal::Elf(ElfError::OutOfMemory),
+            ContentsError::Elf(error) => Refusal::Elf(error),
+            value => Refusal::Rows(value),
+        }
+    }
+}
+
 impl fmt::Display for Refusal {
     fn fmt<W: fmt::Write>(&self, f: &mut fmt::Formatter<W>) -> fmt::Result {
         match *self {
             Refusal::Elf(error) => write!(f, "{error}"),
+            Refusal::Rows(error) => write!(f, "its .debug_frame is not read: {error}"),
             Refusal::Machine(machine) => write!(
                 f,
                 "machine {machine} is neither x86_64 nor aarch64"
@@ -83,18 +97,18 @@ pub fn check_file(
     options: Options,
     allowed: &Allowed<'_>,
 ) -> Result<Checked, AllocError> {
-    let opened = match open(alloc, file) {
+    let (machine, parts, rows) = match open(alloc, file) {
         Ok(opened) => opened,
-        Err(error) => return Ok(Checked::Refused(Refusal::Elf(error))),
+        Err(refusal) => return Ok(Checked::Refused(refusal)),
     };
-    let Some((contents, svma, kind)) = opened.rows else {
+    let Some((contents, svma, kind)) = rows else {
         return Ok(Checked::Refused(Refusal::NoRows));
     };
     let bases = BaseAddresses {
         eh_frame: svma,
         ..BaseAddresses::default()
     };
-    let section = UnwindSection::new(contents, kind, &bases);
+    let section = UnwindSection::new(contents.as_slice(), kind, &bases);
     let mut findings = Findings {
         report: Report::new(alloc),
         others: Others {
@@ -106,11 +120,11 @@ pub fn check_file(
         room: Room::new(file.len(), contents.len()),
         text: String::new(alloc),
     };
-    match opened.header.e_machine {
+    match machine {
         EM_X86_64 => check_section::<CodeX86_64>(
             alloc,
             &section,
-            &opened.parts,
+            &parts,
             options,
             allowed,
             &mut findings,
@@ -118,12 +132,12 @@ pub fn check_file(
         EM_AARCH64 => check_section::<CodeAarch64>(
             alloc,
             &section,
-            &opened.parts,
+            &parts,
             options,
             allowed,
             &mut findings,
         )?,
-        machine => return Ok(Checked::Refused(Refusal::Machine(machine))),
+        _ => return Ok(Checked::Refused(Refusal::Machine(machine))),
     }
     let counts: Counts = findings.report.counts;
     let others = findings.others;
@@ -133,33 +147,28 @@ pub fn check_file(
     Ok(Checked::Text { text, is_good })
 }
 
-/// What a file has to be checked by.
-#[derive(Drop)]
-struct Opened<'a> {
-    header: FileHeader,
-    parts: Parts<'a>,
-    rows: Option<(&'a [u8], u64, UnwindSectionType)>,
-}
+/// The bytes of the section that has the rows, its address (SVMA), and its kind.
+type RowsSection = (Vec<u8>, u64, UnwindSectionType);
 
-/// Reads what a file has to be checked by.
-fn open(alloc: Global, file: &[u8]) -> Result<Opened<'_>, ElfError> {
+/// Reads what a file has to be checked by: its machine, its parts, and the section that has the rows.
+fn open(alloc: Global, file: &[u8]) -> Result<(u16, Parts<'_>, Option<RowsSection>), Refusal> {
     let header = read_file_header(file)?;
     let sections = read_section_headers(alloc, file, header)?;
     let names = read_section_names(file, header, sections.as_slice())?;
     let (symbols, strings) = read_symbols(alloc, file, sections.as_slice(), names)?;
     let rows = match rows_section(sections.as_slice(), names) {
-        Some((section, kind)) => Some((read_contents(file, section)?, section.sh_addr, kind)),
+        Some((section, kind)) => {
+            let contents = read_decompressed(alloc, file, section)?;
+            Some((contents, section.sh_addr, kind))
+        }
         None => None,
     };
-    Ok(Opened {
-        header,
-        parts: Parts {
-            code: code_sections(alloc, file, sections.as_slice())?,
-            symbols,
-            strings,
-        },
-        rows,
-    })
+    let parts = Parts {
+        code: code_sections(alloc, file, sections.as_slice()).map_err(ElfError::from)?,
+        symbols,
+        strings,
+    };
+    Ok((header.e_machine, parts, rows))
 }
 
 /// What a check of a file gives.

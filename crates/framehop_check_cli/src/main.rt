@@ -10,7 +10,7 @@ use allowed::Allowed;
 use clap::{Arg, ArgAction, Command};
 use file::{Checked, Options, Refusal, check_file};
 use framehop_cli::file::read_regular;
-use framehop_cli::{Failure, Printed, Result, exit_code};
+use framehop_cli::{Failure, Printed, Result, StandardOutput, exit_code, usage};
 use framehop_elf::error::ElfError;
 use framehop_pe_file::error::PeError;
 use pe_file::{check_pe_file, is_pe};
@@ -85,12 +85,6 @@ fn command<'a>(alloc: Global) -> Result<Command<'a>> {
     Ok(command)
 }
 
-/// Prints the help, the version or the error of a command line.
-fn usage(rt: &HostRuntime, error: &clap::Error) -> Result<u8> {
-    error.print(rt)?;
-    if error.use_stderr() { Ok(2) } else { Ok(0) }
-}
-
 /// Reads the list of names, which is empty without a path.
 fn read_list(rt: &HostRuntime, path: Option<&str>) -> Result<Option<Vec<u8>>> {
     match path {
@@ -116,7 +110,7 @@ fn check_path(
     };
     match checked {
         Checked::Text { text, is_good } => {
-            let mut out = io::writer(rt);
+            let mut out = StandardOutput { rt };
             io::Write::write_all(&mut out, text.as_bytes())?;
             io::Write::flush(&mut out)?;
             Ok(is_good)

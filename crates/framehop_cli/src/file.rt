@@ -4,11 +4,15 @@ use std::{fs, io};
 /// The size of the largest file that is read, in bytes: 4 GiB.
 const LARGEST_FILE: u64 = 0x1_0000_0000;
 
-/// Reads a regular file of at most 4 GiB. Returns `None` of any other, and of a larger one.
+/// Reads a regular file of at most 4 GiB. Returns `None` of any other, and of a larger one. One whose size is told as 0 is not
+/// opened: to read a file that the kernel makes up may block.
 pub fn read_regular(rt: &HostRuntime, path: &str) -> io::Result<Option<Vec<u8>>> {
     let metadata = fs::metadata(rt, path)?;
     if !metadata.is_file() || metadata.len() > LARGEST_FILE {
         return Ok(None);
+    }
+    if metadata.len() == 0 {
+        return Ok(Some(Vec::new(rt.alloc())));
     }
     Ok(Some(fs::read(rt, path)?))
 }

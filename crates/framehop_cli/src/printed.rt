@@ -5,7 +5,8 @@ use std::fmt;
 const LONGEST_NAME: usize = 2048;
 
 /// A name that others gave, as of a file or of a function. Printed, each byte of a control character is `\xNN`, so that a
-/// terminal takes none for a command; of a name of more than 2,048 bytes the rest is `...`.
+/// terminal takes none for a command, and so is each of a character that is not seen or turns the order of a line; of a name
+/// of more than 2,048 bytes the rest is `...`.
 #[derive(Clone, Copy)]
 pub struct Printed<'a>(pub &'a str);
 
@@ -26,11 +27,21 @@ impl fmt::Display for Printed<'_> {
 
 /// Prints a character of a name.
 fn print_character<W: fmt::Write>(character: char, f: &mut fmt::Formatter<W>) -> fmt::Result {
-    if !character.is_control() {
+    if !character.is_control() && !is_unseen(character) {
         return f.write_char(character);
     }
     for byte in character.encode_utf8(&mut [0; 4]).bytes() {
         write!(f, "\\x{byte:02x}")?;
     }
     Ok(())
+}
+
+/// Returns whether a character is not seen, ends a line or turns the order in which a line is read: of the characters of
+/// Unicode's general categories Cf, Zl and Zp those of the blocks General Punctuation and Arabic Presentation Forms-B, and
+/// the soft hyphen.
+fn is_unseen(character: char) -> bool {
+    matches!(
+        character,
+        '\u{ad}' | '\u{200b}'..='\u{200f}' | '\u{2028}'..='\u{202e}' | '\u{2060}'..='\u{206f}' | '\u{feff}'
+    )
 }

@@ -5,7 +5,7 @@
 use clap::{Arg, ArgAction, Command};
 use either::{Either, Left, Right};
 use framehop_cli::file::read_regular;
-use framehop_cli::{Failure, Printed, Result, exit_code};
+use framehop_cli::{Failure, Printed, Result, StandardOutput, exit_code, usage};
 use framehop_explain_program::{FileProblem, explain_file, explain_program};
 use framehop_walk::{Input, Output};
 use std::alloc::Global;
@@ -68,12 +68,6 @@ fn command<'a>(alloc: Global) -> Result<Command<'a>> {
     Ok(command)
 }
 
-/// Prints the help, the version or the error of a command line.
-fn usage(rt: &HostRuntime, error: &clap::Error) -> Result<u8> {
-    error.print(rt)?;
-    if error.use_stderr() { Ok(2) } else { Ok(0) }
-}
-
 /// Prints what an ELF file or a PE file has to unwind by.
 fn print_file(rt: &HostRuntime, path: &str, texts: &[&str]) -> Result<u8> {
     let Some(addresses) = parse_addresses(rt.alloc(), texts)? else {
@@ -97,7 +91,7 @@ fn print_file(rt: &HostRuntime, path: &str, texts: &[&str]) -> Result<u8> {
     };
     match explain_file(rt.alloc(), bytes.as_slice(), addresses.as_slice()) {
         Ok(text) => {
-            let mut out = io::writer(rt);
+            let mut out = StandardOutput { rt };
             io::Write::write_all(&mut out, text.as_bytes())?;
             io::Write::flush(&mut out)?;
             Ok(0)

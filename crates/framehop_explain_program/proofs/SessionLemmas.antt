@@ -3,7 +3,7 @@ use Rattle.std.proofs.Common.{◌≡◌, ◌∙◌, ℕ, suc, ◌+◌, ◌-◌, 
 use Rattle.std.proofs.Math.ListN.{drop_of_length-le}
 use Rattle.std.specs.Global.{Global}
 use Rattle.std.specs.declared.vec.Vec.{Vec}
-use Rattle.std.specs.List.{AllZip, flat_map}
+use Rattle.std.specs.List.{AllZip}
 use Rattle.framehop_core.specs.CodeAddress.{location_of, at_instruction_pointer}
 use Rattle.framehop_core.specs.declared.code_address.FrameAddress.{FrameAddress}
 use Rattle.framehop.specs.CachedWorld.{step_of}
@@ -37,7 +37,9 @@ use Rattle.framehop_walk.specs.Refusals.{Reading}
 use Rattle.framehop.specs.Modules.{ModuleView, UnwinderView, with_module, has_start, without_module}
 use Rattle.framehop.specs.declared.session.commands.Command.{Command}
 use Rattle.framehop.specs.declared.session.commands.Command.TheVariants.{New, Clone, Add, Remove, Step, Walk}
-use Rattle.framehop_explain_program.specs.SessionNotes.{Unwinders, unwinder_at, state_after, IsAccepted, IsNoted, AreNotesBy, AreNotesOf, AreNotesIn, AreNotesUnder, AreNotesOn, AreSessionNotes, module_line, remark_line, base_lines}
+use Rattle.framehop_explain_program.specs.SessionNotes.{Unwinders, unwinder_at, state_after, IsAccepted, IsNoted, AreNotesBy, AreNotesOf, AreNotesIn, AreNotesUnder, AreNotesOn, AreSessionNotes, module_line, base_lines}
+use Rattle.framehop_explain_program.specs.Remarks.{remark_line, remark_lines, remark_on, lines_among}
+use Rattle.framehop_explain.specs.declared.kind.UnwindDataKind.{UnwindDataKind}
 
 -- ---- the commands of the input, one after another
 
@@ -46,21 +48,21 @@ module _ {R S : Type 0} (registers : Data → Reading S) (explaining : Explainin
   abbrev pub Left : Items → Unwinders → List (List ℕ) → Type 0
   Left items state before = (others : List (List ℕ)) → AreNotesOf registers explaining unwinding items state others → All (before ++ others)
 
-  by-reading : (reading : Reading (List ℕ × Written S)) (rest : Items) (command : Command (Vec ℕ Global) S) (state new : Unwinders) (before after others : List (List ℕ))
-      → IsAccepted reading (Some command) → IsNoted explaining unwinding command state new before after
+  by-reading : (fields : Data) (reading : Reading (List ℕ × Written S)) (rest : Items) (command : Command (Vec ℕ Global) S) (state new : Unwinders) (before after others : List (List ℕ))
+      → IsAccepted reading (Some command) → IsNoted explaining unwinding fields command state new before after
       → AreNotesOf registers explaining unwinding rest new others
-      → (first : List (List ℕ)) × AreNotesBy registers explaining unwinding state (AreNotesOf registers explaining unwinding rest) reading (first ++ others) × (after ≡ before ++ first)
-  by-reading reading rest command state new before after others accepted noted left =
-      let P : Reading (List ℕ × Written S) → Type 0 = λ r. AreNotesBy registers explaining unwinding state (AreNotesOf registers explaining unwinding rest) r (noted.notes ++ others) in
+      → (first : List (List ℕ)) × AreNotesBy registers explaining unwinding fields state (AreNotesOf registers explaining unwinding rest) reading (first ++ others) × (after ≡ before ++ first)
+  by-reading fields reading rest command state new before after others accepted noted left =
+      let P : Reading (List ℕ × Written S) → Type 0 = λ r. AreNotesBy registers explaining unwinding fields state (AreNotesOf registers explaining unwinding rest) r (noted.notes ++ others) in
       let Q : Unwinders → Type 0 = λ s. AreNotesOf registers explaining unwinding rest s others in
       (noted.notes, subst P (sym accepted.1) (command, noted.notes, others, accepted.2, noted.are, subst Q noted.state left, refl), noted.grown)
 
   pub next-noted : (items rest : Items) (fields : Data) (command : Command (Vec ℕ Global) S) (state new : Unwinders) (before after : List (List ℕ))
       → items ≡ item fields rest → IsAccepted (read_next registers [] fields) (Some command)
-      → IsNoted explaining unwinding command state new before after → Left items state before → Left rest new after
+      → IsNoted explaining unwinding fields command state new before after → Left items state before → Left rest new after
   unfolding AreNotesOf
   next-noted items rest fields command state new before after is accepted noted left = λ others are.
-      let made = by-reading (read_next registers [] fields) rest command state new before after others accepted noted are in
+      let made = by-reading fields (read_next registers [] fields) rest command state new before after others accepted noted are in
       let P : Items → Type 0 = λ these. AreNotesOf registers explaining unwinding these state (made.0 ++ others) in
       let whole = left (made.0 ++ others) (subst P (sym is) made.1) in
       subst All (sym (append_assoc before made.0 others) ∙ ap (λ notes. notes ++ others) (sym made.2)) whole
@@ -69,7 +71,7 @@ module _ {R S : Type 0} (registers : Data → Reading S) (explaining : Explainin
       → items ≡ item fields rest → IsAccepted (read_next registers [] fields) None → Left items state before → All before
   unfolding AreNotesOf
   refused-noted items rest fields state before is refused left =
-      let P : Reading (List ℕ × Written S) → Type 0 = λ r. AreNotesBy registers explaining unwinding state (AreNotesOf registers explaining unwinding rest) r [] in
+      let P : Reading (List ℕ × Written S) → Type 0 = λ r. AreNotesBy registers explaining unwinding fields state (AreNotesOf registers explaining unwinding rest) r [] in
       let Q : Items → Type 0 = λ these. AreNotesOf registers explaining unwinding these state [] in
       subst All (append-nil before) (left [] (subst Q (sym is) (subst P (sym refused.1) refl)))
 
@@ -156,10 +158,10 @@ module _ (fields : Data) (notes : List (List ℕ)) where
 abbrev pub unwinders_of : List UnwinderView → ℕ → Unwinders
 unwinders_of us next = record { unwinders = us; next = next }
 
-module _ (D : Type 0) {R S : Type 0} (explaining : Explaining R S) (unwinding : Unwinding R S) (us : List UnwinderView) (next number : ℕ) (within : number < length us) (unwinder : UnwinderView) (is : unwinder ≡ unwinder_at (unwinders_of us next) number) where
+module _ (D : Type 0) {R S : Type 0} (explaining : Explaining R S) (unwinding : Unwinding R S) (fields : Data) (us : List UnwinderView) (next number : ℕ) (within : number < length us) (unwinder : UnwinderView) (is : unwinder ≡ unwinder_at (unwinders_of us next) number) where
   step-noted-so : (cache : ℕ) (address : FrameAddress) (regs : S) (memory : StackWords) (before between after : List (List ℕ))
       → AddsNote (IsFrameNote explaining unwinder.modules (memory_of memory) (location_of address) regs) before between → after ≡ between ++ [] ∷ []
-      → IsNoted {D = D} explaining unwinding (Step number cache address regs memory) (unwinders_of us next) (unwinders_of us next) before after
+      → IsNoted {D = D} explaining unwinding fields (Step number cache address regs memory) (unwinders_of us next) (unwinders_of us next) before after
   step-noted-so cache address regs memory before between after noted ended =
       let P : UnwinderView → Type 0 = λ u. IsFrameNote explaining u.modules (memory_of memory) (location_of address) regs noted.0 in
       record {
@@ -172,7 +174,7 @@ module _ (D : Type 0) {R S : Type 0} (explaining : Explaining R S) (unwinding : 
   walk-noted-so : (cache pc : ℕ) (regs : S) (memory : StackWords) (limit : ℕ) (before between after : List (List ℕ))
       → AddsNotes (IsFrameNote explaining unwinder.modules (memory_of memory)) (frames_from (step_of unwinding unwinder (memory_of memory)) limit (Some (at_instruction_pointer pc, regs))) before between
       → after ≡ between ++ [] ∷ [] ∷ []
-      → IsNoted {D = D} explaining unwinding (Walk number cache pc regs memory limit) (unwinders_of us next) (unwinders_of us next) before after
+      → IsNoted {D = D} explaining unwinding fields (Walk number cache pc regs memory limit) (unwinders_of us next) (unwinders_of us next) before after
   walk-noted-so cache pc regs memory limit before between after noted ended =
       let P : UnwinderView → Type 0 = λ u. AllZip (λ frame note. IsFrameNote explaining u.modules (memory_of memory) frame.0 frame.1 note) (frames_from (step_of unwinding u (memory_of memory)) limit (Some (at_instruction_pointer pc, regs))) noted.0 in
       record {
@@ -184,14 +186,14 @@ module _ (D : Type 0) {R S : Type 0} (explaining : Explaining R S) (unwinding : 
 
   pub step-noted : {E : Type 0} (r : Result (Unit {0}) E) (cache : ℕ) (address : FrameAddress) (regs : S) (memory : StackWords) (before between after : List (List ℕ))
       → AddsNote (IsFrameNote explaining unwinder.modules (memory_of memory) (location_of address) regs) before between → OnOk r (after ≡ between ++ [] ∷ [])
-      → OnOk r (IsNoted {D = D} explaining unwinding (Step number cache address regs memory) (unwinders_of us next) (unwinders_of us next) before after)
+      → OnOk r (IsNoted {D = D} explaining unwinding fields (Step number cache address regs memory) (unwinders_of us next) (unwinders_of us next) before after)
   step-noted (Ok done) cache address regs memory before between after noted ended = step-noted-so cache address regs memory before between after noted ended
   step-noted (Err error) cache address regs memory before between after noted ended = tt
 
   pub walk-noted : {E : Type 0} (r : Result (Unit {0}) E) (cache pc : ℕ) (regs : S) (memory : StackWords) (limit : ℕ) (before between after : List (List ℕ))
       → AddsNotes (IsFrameNote explaining unwinder.modules (memory_of memory)) (frames_from (step_of unwinding unwinder (memory_of memory)) limit (Some (at_instruction_pointer pc, regs))) before between
       → OnOk r (after ≡ between ++ [] ∷ [] ∷ [])
-      → OnOk r (IsNoted {D = D} explaining unwinding (Walk number cache pc regs memory limit) (unwinders_of us next) (unwinders_of us next) before after)
+      → OnOk r (IsNoted {D = D} explaining unwinding fields (Walk number cache pc regs memory limit) (unwinders_of us next) (unwinders_of us next) before after)
   walk-noted (Ok done) cache pc regs memory limit before between after noted ended = walk-noted-so cache pc regs memory limit before between after noted ended
   walk-noted (Err error) cache pc regs memory limit before between after noted ended = tt
 
@@ -213,21 +215,19 @@ based m start base note more shown text starts bases above is same formatted =
     rw (lt-ltb m.start m.base_avma higher)
     (is ∙ ap (λ t. note ++ remark_line t) (same ∙ formatted ∙ ap (λ b. told b start) bases ∙ ap (λ s. told m.base_avma s) starts))
 
-pub remarked : {E : Type 0} (r : Result (List ℕ) E) (note text : List ℕ) → IfOk r (λ more. more ≡ note ++ remark_line text)
-    → IfOk r (λ more. (remarks : List (List ℕ)) × (more ≡ note ++ flat_map remark_line remarks))
-remarked (Ok more) note text is = (text ∷ [], is ∙ ap (λ line. note ++ line) (sym (append-nil (remark_line text))))
-remarked (Err error) note text is = tt
+-- the remarks on a list of sections, one section at a time
+abbrev pub left_among : UnwindDataKind → List ℕ → List Value → List ℕ
+left_among kind note sections = note ++ lines_among kind (items_view sections)
 
-flat-append : (xs ys : List (List ℕ)) → flat_map remark_line (xs ++ ys) ≡ flat_map remark_line xs ++ flat_map remark_line ys
-flat-append [] ys = refl
-flat-append (x ∷ xs) ys =
-    ap (λ others. remark_line x ++ others) (flat-append xs ys) ∙ sym (append_assoc (remark_line x) (flat_map remark_line xs) (flat_map remark_line ys))
+pub section-noted : (kind : UnwindDataKind) (sections : List Value) (i : ℕ) (section : Value) (note more : List ℕ) → i < length sections → section ≡ get_or sections i section
+    → more ≡ note ++ remark_lines (remark_on kind (view section)) → left_among kind more (drop (i + 1) sections) ≡ left_among kind note (drop i sections)
+section-noted kind sections i section note more within is grown =
+    let others = lines_among kind (items_view (drop (i + 1) sections)) in
+    ap (λ text. text ++ others) grown ∙ append_assoc note (remark_lines (remark_on kind (view section))) others
+    ∙ ap (λ items. note ++ lines_among kind items) (sym (items-more sections i section within is))
 
-pub remarks-more : (note before after : List ℕ) (xs ys : List (List ℕ)) → before ≡ note ++ flat_map remark_line xs → after ≡ before ++ flat_map remark_line ys
-    → after ≡ note ++ flat_map remark_line (xs ++ ys)
-remarks-more note before after xs ys was is =
-    is ∙ ap (λ n. n ++ flat_map remark_line ys) was ∙ append_assoc note (flat_map remark_line xs) (flat_map remark_line ys)
-    ∙ ap (λ lines. note ++ lines) (sym (flat-append xs ys))
+pub sections-noted : (kind : UnwindDataKind) (sections : List Value) (i : ℕ) (note : List ℕ) → length sections ≤ i → left_among kind note (drop i sections) ≡ note
+sections-noted kind sections i note past = ap (λ items. note ++ lines_among kind items) (items-end sections i past) ∙ append-nil note
 
 -- ---- before the first command
 

@@ -7,6 +7,7 @@ use Rattle.framehop_walk.specs.Streams.{InputView, Outputs}
 use Rattle.framehop_walk.specs.declared.refusal.Refusal.{Refusal}
 use Rattle.framehop_walk.specs.declared.refusal.Refusal.TheVariants.{OutOfMemory}
 use Rattle.framehop_explain_program.specs.Explained.{IsPrinted}
+use Rattle.framehop_explain_program.specs.FaultText.{IsPlace}
 
 -- the text of a problem: where the input is wrong or, where that is not known, the refusal
 abbrev pub place_text : Refusal → Option (List ℕ) → List ℕ
@@ -24,10 +25,13 @@ pub record HasPrinted (input : InputView) (old new : Outputs) : Type 0 where
   pub noted : new.out.has_failed ≡ old.out.has_failed
   pub silent : Keeps old.err.bytes new.err.bytes
 
--- the run was refused: one line is written to the one output, and nothing to the other, as far as no write has failed
-pub record HasRefused (old new : Outputs) : Type 0 where
-  pub text : List ℕ
-  pub told : new.err.has_failed ≡ false → Appends old.err.bytes new.err.bytes (problem_line text)
+-- the run was refused: one line is written to the one output, and nothing to the other, as far as no write has failed;
+-- the line tells where the input is wrong, if that is told of this refusal
+pub record HasRefused (refusal : Refusal) (input : InputView) (old new : Outputs) : Type 0 where
+  pub place : Option (List ℕ)
+  pub placed : IfSome input.remaining (λ bytes. IsPlace refusal bytes place)
+  pub told : new.err.has_failed ≡ false
+      → Appends old.err.bytes new.err.bytes (problem_line (place_text refusal place))
   pub unwritten : new.out.has_failed ≡ false → Keeps old.out.bytes new.out.bytes
 
 -- a run with this status over an input. Where memory has not run out, a refusal is one that `framehop-walk` has too: for
@@ -35,5 +39,5 @@ pub record HasRefused (old new : Outputs) : Type 0 where
 abbrev pub IsRun : ℕ → InputView → InputView → Outputs → Outputs → Type 0
 IsRun status input input' old new =
     ((status ≡ 0) × HasPrinted input old new)
-    ⊎ ((refusal : Refusal) × (status ≡ refusal_status refusal) × HasRefused old new
+    ⊎ ((refusal : Refusal) × (status ≡ refusal_status refusal) × HasRefused refusal input old new
     × (refusal ≢ OutOfMemory → IsOfRun input'.has_failed new.out.has_failed input.remaining refusal))

@@ -1,7 +1,7 @@
 -- The notes of a session: those of the reply to each command, one for each of its lines.
 use Rattle.std.specs.Prelude.{◌≡◌, ℕ, ◌+◌, ◌-◌, ◌^◌, ◌&&◌, nat_lt, if◌then◌else◌, MatchBool, List, [], ◌∷◌, ◌++◌, length, slice_set, slice_index_or, codes, Option, Some, None, Result, Ok, Err, ⊤}
 use Rattle.std.specs.Global.{Global}
-use Rattle.std.specs.List.{AllZip, flat_map}
+use Rattle.std.specs.List.{AllZip}
 use Rattle.std.specs.declared.vec.Vec.{Vec}
 use Rattle.serde_json.specs.Data.{Data, Items, no_items, item}
 use Rattle.serde_json.specs.Find.{as_array}
@@ -23,6 +23,7 @@ use Rattle.framehop_explain.specs.DataText.{IsDataText}
 use Rattle.framehop_explain.specs.Found.{Explaining}
 use Rattle.framehop_explain.specs.FrameNotes.{IsFrameNote}
 use Rattle.framehop_explain.specs.FrameText.{name_text}
+use Rattle.framehop_explain.specs.Kind.{kind_of}
 use Rattle.framehop_explain.specs.Note.{note_line}
 use Rattle.framehop_explain.specs.Pieces.{text_of}
 use Rattle.framehop_explain.specs.SourceText.{hexadecimal}
@@ -34,14 +35,11 @@ use Rattle.framehop_walk.specs.Refusals.{Reading}
 use Rattle.framehop_walk.specs.Registers.{read_aarch64, read_x86_64}
 use Rattle.framehop_walk.specs.declared.program.Arch.{Arch}
 use Rattle.framehop_walk.specs.declared.program.Arch.TheVariants.{Aarch64, X86_64}
+use Rattle.framehop_explain_program.specs.Remarks.{remark_line, section_lines}
 
 -- the line of a module that is added: its name, and what unwind data it has
 abbrev pub module_line : ModuleView → List ℕ → List ℕ
 module_line m unwind_data = note_line (text_of (name_text m.name ∷ codes ": " ∷ unwind_data ∷ []))
-
--- a remark
-abbrev pub remark_line : List ℕ → List ℕ
-remark_line text = note_line (codes "note: " ++ text)
 
 -- that the base of a module is above its start, if it is
 abbrev pub base_lines : ModuleView → List ℕ
@@ -51,11 +49,11 @@ base_lines m =
     ∷ codes ": addresses below the base are not covered" ∷ []))
     else []
 
--- the note of a module that is added: its line, then remarks on its base and on the sections of the command
-abbrev pub IsModuleNote : ModuleView → List ℕ → Type 0
-IsModuleNote m note =
-    (unwind_data : List ℕ) × (remarks : List (List ℕ)) × IsDataText m.unwind_data unwind_data
-    × (note ≡ (module_line m unwind_data ++ base_lines m) ++ flat_map remark_line remarks)
+-- the note of a module that a command adds: its line, then remarks on its base and on the sections of the command
+abbrev pub IsModuleNote : ModuleView → Data → List ℕ → Type 0
+IsModuleNote m command note =
+    (unwind_data : List ℕ) × IsDataText m.unwind_data unwind_data
+    × (note ≡ (module_line m unwind_data ++ base_lines m) ++ section_lines (kind_of m.unwind_data) command)
 
 -- the unwinders that were made, and the next generation
 pub record Unwinders : Type 0 where
@@ -99,20 +97,20 @@ state_after state (Stats cache) = state
 module _ {D R S : Type 0} (explaining : Explaining R S) (unwinding : Unwinding R S) where
   -- The notes of the reply to a command: one for its one line, which says nothing, or that of the module that is added;
   -- under a step the note of its frame, and nothing under its registers; under a walk the notes of its frames, and
-  -- nothing under its end and its registers.
-  abbrev pub AreReplyNotes : Unwinders → Command D S → List (List ℕ) → Type 0
-  AreReplyNotes state New notes = notes ≡ [] ∷ []
-  AreReplyNotes state (Clone unwinder) notes = notes ≡ [] ∷ []
-  AreReplyNotes state (Remove unwinder start) notes = notes ≡ [] ∷ []
-  AreReplyNotes state (Stats cache) notes = notes ≡ [] ∷ []
-  AreReplyNotes state (Add unwinder added) notes =
-      (note : List ℕ) × IsModuleNote added note × (notes ≡ note ∷ [])
-  AreReplyNotes state (Step unwinder cache address regs memory) notes =
+  -- nothing under its end and its registers. The command is read from these fields.
+  abbrev pub AreReplyNotes : Data → Unwinders → Command D S → List (List ℕ) → Type 0
+  AreReplyNotes fields state New notes = notes ≡ [] ∷ []
+  AreReplyNotes fields state (Clone unwinder) notes = notes ≡ [] ∷ []
+  AreReplyNotes fields state (Remove unwinder start) notes = notes ≡ [] ∷ []
+  AreReplyNotes fields state (Stats cache) notes = notes ≡ [] ∷ []
+  AreReplyNotes fields state (Add unwinder added) notes =
+      (note : List ℕ) × IsModuleNote added fields note × (notes ≡ note ∷ [])
+  AreReplyNotes fields state (Step unwinder cache address regs memory) notes =
       MatchBool (nat_lt unwinder (length state.unwinders))
       ((note : List ℕ) × IsFrameNote explaining (unwinder_at state unwinder).modules (memory_of memory)
       (location_of address) regs note × (notes ≡ note ∷ [] ∷ []))
       (notes ≡ [] ∷ [])
-  AreReplyNotes state (Walk unwinder cache pc regs memory limit) notes =
+  AreReplyNotes fields state (Walk unwinder cache pc regs memory limit) notes =
       MatchBool (nat_lt unwinder (length state.unwinders))
       ((frames : List (List ℕ)) × AllZip (λ frame note. IsFrameNote explaining (unwinder_at state unwinder).modules
       (memory_of memory) frame.0 frame.1 note)
@@ -121,10 +119,12 @@ module _ {D R S : Type 0} (explaining : Explaining R S) (unwinding : Unwinding R
       × (notes ≡ frames ++ [] ∷ [] ∷ []))
       (notes ≡ [] ∷ [] ∷ [])
 
-  -- a command was noted: the notes have grown by those of its reply, and the unwinders are those after it
-  pub record IsNoted (command : Command D S) (old new : Unwinders) (before after : List (List ℕ)) : Type 0 where
+  -- a command that is read from these fields was noted: the notes have grown by those of its reply, and the unwinders
+  -- are those after it
+  pub record IsNoted (fields : Data) (command : Command D S) (old new : Unwinders) (before after : List (List ℕ))
+      : Type 0 where
     pub notes : List (List ℕ)
-    pub are : AreReplyNotes old command notes
+    pub are : AreReplyNotes fields old command notes
     pub grown : after ≡ before ++ notes
     pub state : new ≡ state_after old command
 
@@ -136,18 +136,18 @@ IsAccepted {S} reading (Some command) =
 
 -- the notes of the commands of the input, up to the first that can't be read
 module _ {R S : Type 0} (registers : Data → Reading S) (explaining : Explaining R S) (unwinding : Unwinding R S) where
-  abbrev pub AreNotesBy : Unwinders → (Unwinders → List (List ℕ) → Type 0) → Reading (List ℕ × Written S)
+  abbrev pub AreNotesBy : Data → Unwinders → (Unwinders → List (List ℕ) → Type 0) → Reading (List ℕ × Written S)
       → List (List ℕ) → Type 0
-  AreNotesBy state Others (Err refusal) notes = notes ≡ []
-  AreNotesBy state Others (Ok written) notes =
+  AreNotesBy fields state Others (Err refusal) notes = notes ≡ []
+  AreNotesBy fields state Others (Ok written) notes =
       (command : Command (Vec ℕ Global) S) × (first : List (List ℕ)) × (others : List (List ℕ))
-      × Says (Ok written.1) command × AreReplyNotes explaining unwinding state command first
+      × Says (Ok written.1) command × AreReplyNotes explaining unwinding fields state command first
       × Others (state_after state command) others × (notes ≡ first ++ others)
 
   unfoldable pub AreNotesOf : Items → Unwinders → List (List ℕ) → Type 0
   AreNotesOf no_items state notes = notes ≡ []
   AreNotesOf (item fields items) state notes =
-      AreNotesBy state (AreNotesOf items) (read_next registers [] fields) notes
+      AreNotesBy fields state (AreNotesOf items) (read_next registers [] fields) notes
 
   -- those of a list of commands, from no unwinder on
   abbrev pub AreNotesIn : Reading Items → List (List ℕ) → Type 0

@@ -2,6 +2,7 @@
 ghost use Rattle.std.specs.Prelude.{◌≡◌, ◌++◌, ℕ, [], ◌∷◌, codes, IfOk, OnOk};
 ghost use Rattle.std.specs.Global.{Global};
 ghost use Rattle.std.specs.declared.vec.Vec.{Vec};
+ghost use Rattle.serde_json.specs.Data.{Data};
 ghost use Rattle.serde_json.specs.Find.{as_array};
 ghost use Rattle.serde_json.specs.View.{view, items_view};
 ghost use Rattle.framehop_explain.specs.Found.{explaining_by};
@@ -114,7 +115,7 @@ where
     ) -> Result<(), AllocError>
         ensures { OnOk result (IsNoted (explaining_by A.readers A.pe_source
             (record { by_code = A.by_code; prologue = A.prologue_rule; epilogue = A.epilogue_rule })
-            A.UnwindRule.rule_text A.UnwindRule.fallback P.policy) (A.unwinding P.policy) accepted
+            A.UnwindRule.rule_text A.UnwindRule.fallback P.policy) (A.unwinding P.policy) (view command.now) accepted
             (record { unwinders = self.old.unwinders.items; next = self.old.generations })
             (record { unwinders = self.new.unwinders.items; next = self.new.generations })
             self.old.notes.items self.new.notes.items) }
@@ -144,10 +145,10 @@ where
     }
 
     fn make_unwinder(&mut self) -> Result<(), AllocError>
-        ensures { let command : Command (Vec ℕ Global) A.UnwindRegs = Command.New in
+        ensures { (fields : Data) → let command : Command (Vec ℕ Global) A.UnwindRegs = Command.New in
             OnOk result (IsNoted (explaining_by A.readers A.pe_source
             (record { by_code = A.by_code; prologue = A.prologue_rule; epilogue = A.epilogue_rule })
-            A.UnwindRule.rule_text A.UnwindRule.fallback P.policy) (A.unwinding P.policy) command
+            A.UnwindRule.rule_text A.UnwindRule.fallback P.policy) (A.unwinding P.policy) fields command
             (record { unwinders = self.old.unwinders.items; next = self.old.generations })
             (record { unwinders = self.new.unwinders.items; next = self.new.generations })
             self.old.notes.items self.new.notes.items) }
@@ -160,10 +161,10 @@ where
     }
 
     fn clone_unwinder(&mut self, number: usize) -> Result<(), AllocError>
-        ensures { let command : Command (Vec ℕ Global) A.UnwindRegs = Command.Clone number in
+        ensures { (fields : Data) → let command : Command (Vec ℕ Global) A.UnwindRegs = Command.Clone number in
             OnOk result (IsNoted (explaining_by A.readers A.pe_source
             (record { by_code = A.by_code; prologue = A.prologue_rule; epilogue = A.epilogue_rule })
-            A.UnwindRule.rule_text A.UnwindRule.fallback P.policy) (A.unwinding P.policy) command
+            A.UnwindRule.rule_text A.UnwindRule.fallback P.policy) (A.unwinding P.policy) fields command
             (record { unwinders = self.old.unwinders.items; next = self.old.generations })
             (record { unwinders = self.new.unwinders.items; next = self.new.generations })
             self.old.notes.items self.new.notes.items) }
@@ -182,10 +183,10 @@ where
         module: Module<Vec<u8>>,
         command: &Value,
     ) -> Result<(), AllocError>
-        ensures { let command : Command (Vec ℕ Global) A.UnwindRegs = Command.Add number «module» in
+        ensures { let accepted : Command (Vec ℕ Global) A.UnwindRegs = Command.Add number «module» in
             OnOk result (IsNoted (explaining_by A.readers A.pe_source
             (record { by_code = A.by_code; prologue = A.prologue_rule; epilogue = A.epilogue_rule })
-            A.UnwindRule.rule_text A.UnwindRule.fallback P.policy) (A.unwinding P.policy) command
+            A.UnwindRule.rule_text A.UnwindRule.fallback P.policy) (A.unwinding P.policy) (view command.now) accepted
             (record { unwinders = self.old.unwinders.items; next = self.old.generations })
             (record { unwinders = self.new.unwinders.items; next = self.new.generations })
             self.old.notes.items self.new.notes.items) }
@@ -205,10 +206,10 @@ where
     }
 
     fn remove_module(&mut self, number: usize, start: u64) -> Result<(), AllocError>
-        ensures { let command : Command (Vec ℕ Global) A.UnwindRegs = Command.Remove number start in
+        ensures { (fields : Data) → let command : Command (Vec ℕ Global) A.UnwindRegs = Command.Remove number start in
             OnOk result (IsNoted (explaining_by A.readers A.pe_source
             (record { by_code = A.by_code; prologue = A.prologue_rule; epilogue = A.epilogue_rule })
-            A.UnwindRule.rule_text A.UnwindRule.fallback P.policy) (A.unwinding P.policy) command
+            A.UnwindRule.rule_text A.UnwindRule.fallback P.policy) (A.unwinding P.policy) fields command
             (record { unwinders = self.old.unwinders.items; next = self.old.generations })
             (record { unwinders = self.new.unwinders.items; next = self.new.generations })
             self.old.notes.items self.new.notes.items) }
@@ -229,10 +230,10 @@ where
         regs: A::UnwindRegs,
         memory: &Memory,
     ) -> Result<(), AllocError>
-        ensures { (cache : ℕ) → let command : Command (Vec ℕ Global) A.UnwindRegs = Command.Step number cache address regs memory.now in
+        ensures { (fields : Data) (cache : ℕ) → let command : Command (Vec ℕ Global) A.UnwindRegs = Command.Step number cache address regs memory.now in
             OnOk result (IsNoted (explaining_by A.readers A.pe_source
             (record { by_code = A.by_code; prologue = A.prologue_rule; epilogue = A.epilogue_rule })
-            A.UnwindRule.rule_text A.UnwindRule.fallback P.policy) (A.unwinding P.policy) command
+            A.UnwindRule.rule_text A.UnwindRule.fallback P.policy) (A.unwinding P.policy) fields command
             (record { unwinders = self.old.unwinders.items; next = self.old.generations })
             (record { unwinders = self.new.unwinders.items; next = self.new.generations })
             self.old.notes.items self.new.notes.items) }
@@ -253,10 +254,10 @@ where
         memory: &Memory,
         limit: u32,
     ) -> Result<(), AllocError>
-        ensures { (cache : ℕ) → let command : Command (Vec ℕ Global) A.UnwindRegs = Command.Walk number cache pc regs memory.now limit in
+        ensures { (fields : Data) (cache : ℕ) → let command : Command (Vec ℕ Global) A.UnwindRegs = Command.Walk number cache pc regs memory.now limit in
             OnOk result (IsNoted (explaining_by A.readers A.pe_source
             (record { by_code = A.by_code; prologue = A.prologue_rule; epilogue = A.epilogue_rule })
-            A.UnwindRule.rule_text A.UnwindRule.fallback P.policy) (A.unwinding P.policy) command
+            A.UnwindRule.rule_text A.UnwindRule.fallback P.policy) (A.unwinding P.policy) fields command
             (record { unwinders = self.old.unwinders.items; next = self.old.generations })
             (record { unwinders = self.new.unwinders.items; next = self.new.generations })
             self.old.notes.items self.new.notes.items) }
@@ -278,10 +279,10 @@ where
     }
 
     fn note_stats(&mut self) -> Result<(), AllocError>
-        ensures { (cache : ℕ) → let command : Command (Vec ℕ Global) A.UnwindRegs = Command.Stats cache in
+        ensures { (fields : Data) (cache : ℕ) → let command : Command (Vec ℕ Global) A.UnwindRegs = Command.Stats cache in
             OnOk result (IsNoted (explaining_by A.readers A.pe_source
             (record { by_code = A.by_code; prologue = A.prologue_rule; epilogue = A.epilogue_rule })
-            A.UnwindRule.rule_text A.UnwindRule.fallback P.policy) (A.unwinding P.policy) command
+            A.UnwindRule.rule_text A.UnwindRule.fallback P.policy) (A.unwinding P.policy) fields command
             (record { unwinders = self.old.unwinders.items; next = self.old.generations })
             (record { unwinders = self.new.unwinders.items; next = self.new.generations })
             self.old.notes.items self.new.notes.items) }

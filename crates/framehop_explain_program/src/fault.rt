@@ -1,4 +1,8 @@
 //! Where the input is wrong, and how.
+ghost use Rattle.std.specs.Prelude.{◌≡◌, Some, option_map};
+ghost use Rattle.framehop_explain_program.specs.Faults.{holder_view, fault_view, wrong, wrong_item, within, in_command as in_this_command};
+ghost use Rattle.framehop_explain_program.specs.FaultText.{cause_text, item_text, holder_text, fault_text};
+
 use std::fmt;
 
 /// What is wrong with a value of the input.
@@ -37,6 +41,9 @@ pub enum Cause {
 }
 
 impl fmt::Display for Cause {
+    ghost output = { λ cause. Some (cause_text cause) };
+
+    #[tactic(auto, unfolding(crate::specs::FaultText::cause_text))]
     fn fmt<W: fmt::Write>(&self, f: &mut fmt::Formatter<W>) -> fmt::Result {
         match *self {
             Cause::Missing => write!(f, "missing"),
@@ -80,7 +87,9 @@ pub struct Fault {
 
 impl Fault {
     /// Returns a field that is missing or wrong.
-    pub fn of(field: &'static str, cause: Cause) -> Self {
+    pub fn of(field: &'static str, cause: Cause) -> Self
+        ensures { fault_view result ≡ wrong field.entry.now cause }
+    {
         Fault {
             command: None,
             parent: None,
@@ -91,7 +100,9 @@ impl Fault {
     }
 
     /// Returns an item of a list that is wrong.
-    pub(crate) fn of_item(field: &'static str, item: usize, cause: Cause) -> Self {
+    pub(crate) fn of_item(field: &'static str, item: usize, cause: Cause) -> Self
+        ensures { fault_view result ≡ wrong_item field.entry.now item cause }
+    {
         Fault {
             command: None,
             parent: None,
@@ -102,7 +113,9 @@ impl Fault {
     }
 
     /// Returns the same fault, in a field that is an object or in an item of one that is a list.
-    pub fn below(self, name: &'static str, item: Option<usize>) -> Self {
+    pub fn below(self, name: &'static str, item: Option<usize>) -> Self
+        ensures { fault_view result ≡ within name.entry.now item (fault_view self) }
+    {
         Fault {
             parent: Some(Parent { name, item }),
             ..self
@@ -110,7 +123,9 @@ impl Fault {
     }
 
     /// Returns the same fault, in a command.
-    pub(crate) fn in_command(self, command: usize) -> Self {
+    pub(crate) fn in_command(self, command: usize) -> Self
+        ensures { fault_view result ≡ in_this_command command (fault_view self) }
+    {
         Fault {
             command: Some(command),
             ..self
@@ -118,19 +133,48 @@ impl Fault {
     }
 }
 
-impl fmt::Display for Fault {
+/// The number of an item, if there is one.
+#[derive(Clone, Copy)]
+struct ItemNumber(Option<usize>);
+
+impl fmt::Display for ItemNumber {
+    ghost output = { λ item. Some (item_text item.0) };
+
+    #[tactic(auto, unfolding(crate::specs::FaultText::item_text))]
     fn fmt<W: fmt::Write>(&self, f: &mut fmt::Formatter<W>) -> fmt::Result {
-        if let Some(parent) = self.parent {
-            write!(f, "{}", parent.name)?;
-            if let Some(item) = parent.item {
-                write!(f, "[{item}]")?;
+        match self.0 {
+            Some(number) => write!(f, "[{number}]"),
+            None => Ok(()),
+        }
+    }
+}
+
+/// What has a field, if it is not the command itself.
+#[derive(Clone, Copy)]
+struct Holder(Option<Parent>);
+
+impl fmt::Display for Holder {
+    ghost output = { λ holder. Some (holder_text (option_map holder_view holder.0)) };
+
+    #[tactic(auto, unfolding(crate::specs::FaultText::holder_text))]
+    fn fmt<W: fmt::Write>(&self, f: &mut fmt::Formatter<W>) -> fmt::Result {
+        match self.0 {
+            Some(parent) => {
+                let item = ItemNumber(parent.item);
+                write!(f, "{}{item}.", parent.name)
             }
-            write!(f, ".")?;
+            None => Ok(()),
         }
-        write!(f, "{}", self.field)?;
-        if let Some(item) = self.item {
-            write!(f, "[{item}]")?;
-        }
-        write!(f, ": {}", self.cause)
+    }
+}
+
+impl fmt::Display for Fault {
+    ghost output = { λ fault. Some (fault_text (fault_view fault)) };
+
+    #[tactic(auto, unfolding(crate::specs::FaultText::fault_text))]
+    fn fmt<W: fmt::Write>(&self, f: &mut fmt::Formatter<W>) -> fmt::Result {
+        let holder = Holder(self.parent);
+        let item = ItemNumber(self.item);
+        write!(f, "{holder}{}{item}: {}", self.field, self.cause)
     }
 }

@@ -1,5 +1,5 @@
 //! The whole run of the program, over a reader and two writers.
-ghost use Rattle.std.specs.Prelude.{◌≡◌, ◌≢◌, ◌≤◌, ◌++◌, ◌||◌, is_err, IfOk, IfErr, OnOk, OnErr, IfSome, MatchBool, true, false, Ok, Err, option_map, string_bytes};
+ghost use Rattle.std.specs.Prelude.{◌≡◌, ◌≢◌, ◌≤◌, ◌++◌, ◌||◌, is_err, IfOk, IfErr, OnOk, OnErr, IfSome, MatchBool, true, false, None, Ok, Err, option_map, string_bytes};
 ghost use Rattle.std.specs.Io.KnownBytes.{Keeps, Appends};
 ghost use Rattle.serde_json.specs.Find.{as_str};
 ghost use Rattle.serde_json.specs.View.{view};
@@ -10,12 +10,14 @@ ghost use Rattle.framehop_walk.specs.Refusals.{refusal_text, refusal_status};
 ghost use Rattle.framehop_walk.specs.Streams.{outputs};
 ghost use Rattle.framehop_walk.specs.declared.refusal.Refusal.TheVariants.{OutOfMemory};
 ghost use Rattle.framehop_explain_program.specs.Explained.{IsExplained, IsPrinted};
+ghost use Rattle.framehop_explain_program.specs.Faults.{fault_view};
+ghost use Rattle.framehop_explain_program.specs.FaultText.{command_text as text_of_command, verb_at as verb_of, place_in, place_of as place_text_of, IsPlace};
 ghost use Rattle.framehop_explain_program.specs.SessionNotes.{AreNotesUnder, AreSessionNotes};
 ghost use Rattle.framehop_explain_program.specs.Runs.{place_text, problem_line, IsRun};
 
 use crate::explainer::notes_of;
 use crate::fault::Fault;
-use crate::fields::{items_of, text_of, wrong_field, wrong_number};
+use crate::fields::{check_input, check_session};
 use framehop::aarch64::ArchAarch64;
 use framehop::x86_64::ArchX86_64;
 use framehop::{AllocationPolicy, MayAllocateDuringUnwind, MustNotAllocateDuringUnwind};
@@ -38,7 +40,7 @@ pub struct Problem {
 }
 
 impl From<Refusal> for Problem {
-    ghost from_gives = { λ refusal problem. problem.refusal ≡ refusal };
+    ghost from_gives = { λ refusal problem. (problem.refusal ≡ refusal) × (problem.place ≡ None) };
 
     fn from(refusal: Refusal) -> Self {
         Problem {
@@ -49,7 +51,7 @@ impl From<Refusal> for Problem {
 }
 
 impl From<AllocError> for Problem {
-    ghost from_gives = { λ _ problem. problem.refusal ≡ OutOfMemory };
+    ghost from_gives = { λ _ problem. (problem.refusal ≡ OutOfMemory) × (problem.place ≡ None) };
 
     fn from(_error: AllocError) -> Self {
         Problem {
@@ -88,6 +90,8 @@ fn print_explained<R: Read, W: Write>(
     ensures noted { OnOk result (out.new.has_failed ≡ out.old.has_failed) }
     ensures told { IfErr result (λ problem. problem.refusal ≢ Refusal.OutOfMemory
         → IsOfRun input.new.has_failed out.new.has_failed input.old.remaining problem.refusal) }
+    ensures placed { IfErr result (λ problem. IfSome input.old.remaining (λ bytes.
+        IsPlace problem.refusal bytes (option_map (λ place. string_bytes place) problem.place))) }
     ensures refused { OnErr result (out.new.has_failed ≡ false → Keeps out.old.bytes out.new.bytes) }
 {
     let bytes = match input.read_all(alloc) {
@@ -110,6 +114,8 @@ pub(crate) fn explain_text(alloc: Global, bytes: &[u8]) -> Result<Vec<u8>, Probl
     ensures answers { IfOk result (λ output. IsExplained bytes.now output.items) }
     ensures refused { IfErr result (λ problem. problem.refusal ≢ Refusal.OutOfMemory
         → Answers bytes.now (Err (refusal_text problem.refusal))) }
+    ensures placed { IfErr result (λ problem.
+        IsPlace problem.refusal bytes.now (option_map (λ place. string_bytes place) problem.place)) }
 {
     let value = parse(alloc, bytes)?;
     match replies_to_value(alloc, &value) {
@@ -129,6 +135,8 @@ fn parse(alloc: Global, bytes: &[u8]) -> Result<Value, Problem>
     ensures reading { IfOk result (λ value. IsJson bytes.now (view value)) }
     ensures refused { IfErr result (λ problem. problem.refusal ≢ Refusal.OutOfMemory
         → (problem.refusal ≡ Refusal.NotJson) × IsNoJson bytes.now) }
+    ensures placed { IfErr result (λ problem.
+        IsPlace problem.refusal bytes.now (option_map (λ place. string_bytes place) problem.place)) }
 {
     match Value::from_slice(alloc, bytes) {
         Ok(value) => Ok(value),
@@ -185,37 +193,49 @@ fn is_word(value: &Value, field: &'static str, word: &str) -> bool
 }
 
 /// Returns where the input is wrong that was refused, and how.
-fn place_of(alloc: Global, value: &Value, refusal: Refusal) -> Result<Option<String>, AllocError> {
-    let fault = match refusal {
-        Refusal::BadField(_) => wrong_field(alloc, value)?,
-        Refusal::NoSuchUnwinder | Refusal::NoSuchCache => wrong_number(value),
-        _ => None,
+fn place_of(alloc: Global, value: &Value, refusal: Refusal) -> Result<Option<String>, AllocError>
+    ensures { IfOk result (λ place. option_map (λ text. string_bytes text) place ≡ place_text_of refusal (view value.now)) }
+{
+    let checked = match refusal {
+        Refusal::BadField(_) => check_input(alloc, value)?,
+        Refusal::NoSuchUnwinder | Refusal::NoSuchCache => check_session(value),
+        _ => Ok(()),
     };
-    match fault {
-        Some(fault) => Ok(Some(fault_text(alloc, value, fault)?)),
-        None => Ok(None),
+    match checked {
+        Ok(()) => Ok(None),
+        Err(fault) => Ok(Some(fault_text(alloc, value, fault)?)),
     }
 }
 
 /// Returns where a field is wrong, and how.
-fn fault_text(alloc: Global, value: &Value, fault: Fault) -> Result<String, AllocError> {
+#[tactic(auto, unfolding(crate::specs::FaultText::place_in))]
+fn fault_text(alloc: Global, value: &Value, fault: Fault) -> Result<String, AllocError>
+    ensures { IfOk result (λ text. string_bytes text ≡ place_in (view value.now) (fault_view fault)) }
+{
     let Some(number) = fault.command else {
         return format!(in alloc; "{fault}");
     };
-    let command = command_text(alloc, value, number)?;
+    let command = command_text(alloc, verb_at(value, number), number)?;
     format!(in alloc; "{}: {fault}", command.as_str())
 }
 
 /// Returns the number and the verb of a command, before what is wrong in it.
-fn command_text(alloc: Global, value: &Value, number: usize) -> Result<String, AllocError> {
-    let commands = items_of(value, "commands").unwrap_or(&[]);
-    let Some(command) = commands.get(number) else {
-        return format!(in alloc; "commands[{number}]");
-    };
-    match text_of(command, "do") {
-        Ok(verb) => format!(in alloc; "commands[{number}] ({verb})"),
-        Err(_) => format!(in alloc; "commands[{number}]"),
+#[tactic(auto, unfolding(crate::specs::FaultText::command_text))]
+fn command_text(alloc: Global, verb: Option<&str>, number: usize) -> Result<String, AllocError>
+    ensures { IfOk result (λ text. string_bytes text
+        ≡ text_of_command number (option_map (λ verb. verb.now) verb.entry)) }
+{
+    match verb {
+        Some(verb) => format!(in alloc; "commands[{number}] ({verb})"),
+        None => format!(in alloc; "commands[{number}]"),
     }
+}
+
+/// Returns the verb of the command of a number, if it has one.
+fn verb_at(value: &Value, number: usize) -> Option<&str>
+    ensures { option_map (λ verb. verb.now) result ≡ verb_of number (view value.entry.now) }
+{
+    value.get("commands")?.get(number)?.get("do")?.as_str()
 }
 
 /// Writes why a run was refused on one line, and returns its exit status.
