@@ -4,8 +4,7 @@ use crate::traces::{ColumnRow, FrameRow, has_columns, is_trace};
 use crate::unwinders::{LentAarch64, sections_of, unwinder_aarch64};
 use framehop::Unwinder;
 use framehop::aarch64::{CacheAarch64, PtrAuthMask, UnwindRegsAarch64};
-use framehop_backtrace::{BacktraceEnd, FoundBy, Frame, StackTrace, backtrace};
-use framehop_cfi::context::UnwindContext;
+use framehop_backtrace::{BacktraceEnd, FoundBy, Frame, RowRoom, StackTrace, backtrace};
 use framehop_cfi::rule::Register;
 use framehop_cfi::storage::StoreOnStack;
 use framehop_columns::register_file::RegisterFile;
@@ -73,12 +72,12 @@ fn backtrace_in(
     memory: &Dump<'_>,
 ) -> Result<StackTrace<UnwindRegsAarch64>, AllocError> {
     let mut cache = CacheAarch64::new(alloc)?;
-    let mut context = UnwindContext::<StoreOnStack>::new_in(alloc)?;
+    let mut room = RowRoom::<StoreOnStack>::new_in(alloc)?;
     backtrace(
         alloc,
         unwinder,
         unwinder.inner(),
-        &mut context,
+        &mut room,
         &mut cache,
         memory,
         handler(),

@@ -7,12 +7,13 @@ use framehop_memory::memory::{MemoryRange, ProcessMemory};
 use framehop_signal::trampoline::is_trampoline;
 use std::alloc::{AllocError, Global};
 
-/// The memory of a process, whose code is from one address (AVMA) on, up to another.
+/// The memory of a process, whose code is from one address (AVMA) on, up to another, and in which one function is known.
 #[derive(Drop)]
 pub(crate) struct Dump<'a> {
     pub(crate) memory: ProcessMemory<'a>,
     pub(crate) code_start: u64,
     pub(crate) code_end: u64,
+    pub(crate) function_start: Option<u64>,
 }
 
 impl<'a> WordMemory for Dump<'a> {
@@ -35,6 +36,7 @@ impl<'a> CodeMemory for Dump<'a> {
       bytes = bytes_of (memory_view dump.memory);
       is_executable = λ address. nat_le dump.code_start address && nat_lt address dump.code_end;
       is_trampoline = λ address. passes is_trampoline (bytes_after (memory_view dump.memory) address);
+      start_of = λ address. dump.function_start;
     } };
 
     fn bytes_at(&self, address: u64, size: u64) -> Option<&[u8]> {
@@ -50,6 +52,10 @@ impl<'a> CodeMemory for Dump<'a> {
             Some(code) => is_trampoline(code),
             None => false,
         }
+    }
+
+    fn function_start(&self, _address: u64) -> Option<u64> {
+        self.function_start
     }
 }
 
@@ -80,6 +86,7 @@ pub(crate) fn dump_of(alloc: Global, file: &[u8], code_size: u64) -> Result<Dump
         memory: ProcessMemory::new(alloc, file, ranges)?,
         code_start: CODE,
         code_end: CODE.saturating_add(code_size),
+        function_start: None,
     })
 }
 

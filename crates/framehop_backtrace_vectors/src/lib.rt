@@ -8,6 +8,8 @@ mod calls;
 #[cfg(test)]
 mod dump;
 #[cfg(test)]
+mod kept;
+#[cfg(test)]
 mod sources;
 #[cfg(test)]
 mod traces;

@@ -5,8 +5,7 @@ use crate::unwinders::{LentX86_64, sections_of, unwinder_x86_64};
 use framehop::x86_64::{CacheX86_64, UnwindRegsX86_64, UnwinderX86_64};
 use framehop::{Generations, SectionBytes, Unwinder};
 use framehop_backtrace::x86_64::all_columns;
-use framehop_backtrace::{BacktraceEnd, FoundBy, Frame, Rows, StackTrace, backtrace};
-use framehop_cfi::context::UnwindContext;
+use framehop_backtrace::{BacktraceEnd, FoundBy, Frame, RowRoom, Rows, StackTrace, backtrace};
 use framehop_cfi::storage::StoreOnHeap;
 use framehop_core::x86_64::Reg;
 use std::alloc::{AllocError, Global};
@@ -14,7 +13,7 @@ use std::test::Fail;
 
 /// An `.eh_frame` at 0x402000: a CIE, an FDE for 0x401000 to 0x401040, whose CFA is rsp + 32 with rbx at the CFA - 24, and
 /// one for 0x401080 to 0x4010c0 without a return address.
-const EH_FRAME: &'static [u8] = &[
+pub(crate) const EH_FRAME: &'static [u8] = &[
     0x14, 0x00, 0x00, 0x00, 0x00, 0x00, 0x00, 0x00, 0x01, 0x7a, 0x52, 0x00, 0x01, 0x78, 0x10, 0x01,
     0x1b, 0x0c, 0x07, 0x08, 0x90, 0x01, 0x00, 0x00, 0x14, 0x00, 0x00, 0x00, 0x1c, 0x00, 0x00, 0x00,
     0xe0, 0xef, 0xff, 0xff, 0x40, 0x00, 0x00, 0x00, 0x00, 0x0e, 0x20, 0x83, 0x03, 0x00, 0x00, 0x00,
@@ -50,17 +49,10 @@ pub(crate) fn backtrace_in<D: SectionBytes + Drop, W: Rows>(
     limit: u32,
 ) -> Result<StackTrace<UnwindRegsX86_64>, AllocError> {
     let mut cache = CacheX86_64::new(alloc)?;
-    let mut context = UnwindContext::<StoreOnHeap>::new_in(alloc)?;
+    let mut room = RowRoom::<StoreOnHeap>::new_in(alloc)?;
     let first = Frame::first(regs.ip(), all_columns(&regs), regs);
     backtrace(
-        alloc,
-        unwinder,
-        rows,
-        &mut context,
-        &mut cache,
-        memory,
-        first,
-        limit,
+        alloc, unwinder, rows, &mut room, &mut cache, memory, first, limit,
     )
 }
 
@@ -216,6 +208,160 @@ fn falls_back_from_a_guess(rt: HostRuntime) -> Result<(), Fail> {
         let regs = UnwindRegsX86_64::new(0x4010d0, 0x7000, rbp);
         let found = outline_of(rt.alloc(), &WORDS_OF_GUESSES, regs, 10)?;
         assert!(rt; found == outline);
+    }
+    Ok(())
+}
+
+/// Code of a function in no FDE, in the middle of which a frame is: add rsp, 16; pop rbx; ret. Before it a call of *%rax.
+const CODE_OF_RUN: [(usize, &[u8]); 2] = [
+    (0x2e, &[0xff, 0xd0]),
+    (0xd5, &[0x48, 0x83, 0xc4, 0x10, 0x5b, 0xc3]),
+];
+
+/// Its stack: the word at rsp is after no call. Then come its saved rbx, and its return address.
+const WORDS_OF_RUN: [(u64, u64); 4] = [
+    (0x7000, 0x401014),
+    (0x7010, 0xbbbb),
+    (0x7018, 0x401030),
+    (0x7020 + 24, 0x401090),
+];
+
+/// What is known of its caller.
+const KNOWN_BY_RUN: [ColumnRow; 4] = [
+    (1, 3, Some(0xbbbb)),
+    (1, 6, Some(0x7ff0)),
+    (1, 7, Some(0x7020)),
+    (1, 16, Some(0x401030)),
+];
+
+#[test]
+fn runs_code_in_no_fde(rt: HostRuntime) -> Result<(), Fail> {
+    let unwinder = unwinder(rt.alloc())?;
+    let file = file_of(&CODE_OF_RUN, &WORDS_OF_RUN);
+    let memory = dump_of(rt.alloc(), &file, CODE_SIZE)?;
+    let regs = UnwindRegsX86_64::new(0x4010d5, 0x7000, 0x7ff0);
+    let rows = unwinder.inner();
+    let found = backtrace_in(rt.alloc(), &unwinder, rows, &memory, regs, 10)?;
+    assert!(rt; frame_row(&found, 1) == Some((0x401030, true, FoundBy::Run)));
+    assert!(rt; has_columns(&found, &KNOWN_BY_RUN));
+    assert!(rt; (found.end, found.frames.len()) == (BacktraceEnd::Root, 3));
+    Ok(())
+}
+
+/// Code of calls by their offsets. They end at 0x401010, 0x401020, 0x401030, 0x401040 and 0x401050.
+const CALLS: [(usize, &[u8]); 7] = [
+    // call 0x4010c0, call 0x4010d0
+    (0x0b, &[0xe8, 0xb0, 0x00, 0x00, 0x00]),
+    (0x1b, &[0xe8, 0xb0, 0x00, 0x00, 0x00]),
+    // call *%rax
+    (0x2e, &[0xff, 0xd0]),
+    // call 0x4011a0, call 0x4011b0
+    (0x3b, &[0xe8, 0x60, 0x01, 0x00, 0x00]),
+    (0x4b, &[0xe8, 0x60, 0x01, 0x00, 0x00]),
+    // jmp *0x2fe2(%rip), endbr64 and bnd jmp *0x2fe2(%rip)
+    (0x1a0, &[0xff, 0x25, 0xe2, 0x2f, 0x00, 0x00]),
+    (
+        0x1b0,
+        &[
+            0xf3, 0x0f, 0x1e, 0xfa, 0xf2, 0xff, 0x25, 0xe2, 0x2f, 0x00, 0x00,
+        ],
+    ),
+];
+
+/// Addresses after a call of another function than that at 0x4010d0, of that, of `*%rax`, of two entries of a procedure
+/// linkage table, of code that nobody has, and after no call.
+const OTHER: u64 = 0x401010;
+
+const OF_FUNCTION: u64 = 0x401020;
+
+const INDIRECT: u64 = 0x401030;
+
+const BY_TABLE: u64 = 0x401040;
+
+const BY_MARKED_TABLE: u64 = 0x401050;
+
+const UNREAD: u64 = 0x401280;
+
+const NO_CALL: u64 = 0x401014;
+
+/// The word at the stack pointer, that of the frame pointer, and the caller.
+type Compared = (u64, u64, Option<(u64, FoundBy)>);
+
+const COMPARED: [Compared; 16] = [
+    (OF_FUNCTION, INDIRECT, Some((OF_FUNCTION, FoundBy::Guess))),
+    (
+        OF_FUNCTION,
+        OF_FUNCTION,
+        Some((OF_FUNCTION, FoundBy::Guess)),
+    ),
+    (
+        INDIRECT,
+        OF_FUNCTION,
+        Some((OF_FUNCTION, FoundBy::FramePointer)),
+    ),
+    (INDIRECT, OTHER, Some((INDIRECT, FoundBy::Guess))),
+    (BY_TABLE, INDIRECT, Some((BY_TABLE, FoundBy::Guess))),
+    (
+        BY_MARKED_TABLE,
+        INDIRECT,
+        Some((BY_MARKED_TABLE, FoundBy::Guess)),
+    ),
+    (OTHER, INDIRECT, Some((OTHER, FoundBy::Guess))),
+    (OTHER, BY_MARKED_TABLE, Some((OTHER, FoundBy::Guess))),
+    (OTHER, NO_CALL, Some((OTHER, FoundBy::Guess))),
+    (NO_CALL, OTHER, Some((OTHER, FoundBy::FramePointer))),
+    (NO_CALL, NO_CALL, None),
+    (UNREAD, INDIRECT, Some((UNREAD, FoundBy::Guess))),
+    (
+        UNREAD,
+        OF_FUNCTION,
+        Some((OF_FUNCTION, FoundBy::FramePointer)),
+    ),
+    (NO_CALL, UNREAD, Some((UNREAD, FoundBy::FramePointer))),
+    // at the end of executable memory, and beyond it
+    (0x401300, NO_CALL, Some((0x401300, FoundBy::Guess))),
+    (0x401301, NO_CALL, None),
+];
+
+/// Returns the first caller of a function at 0x4010d0, by the words at the stack pointer and at the frame pointer. Of
+/// executable memory from 0x401200 to 0x401300 nothing is known.
+fn compared(alloc: Global, at_stack: u64, at_frame: u64) -> Result<Option<(u64, FoundBy)>, Fail> {
+    let unwinder = unwinder(alloc)?;
+    let words = [(0x7000, at_stack), (0x7100, 0x7140), (0x7108, at_frame)];
+    let file = file_of(&CALLS, &words);
+    let mut memory = dump_of(alloc, &file, CODE_SIZE)?;
+    memory.code_end = 0x401300;
+    memory.function_start = Some(0x4010d0);
+    let regs = UnwindRegsX86_64::new(0x4010d0, 0x7000, 0x7100);
+    let found = backtrace_in(alloc, &unwinder, unwinder.inner(), &memory, regs, 2)?;
+    match frame_row(&found, 1) {
+        Some((address, _, found)) => Ok(Some((address, found))),
+        None => Ok(None),
+    }
+}
+
+#[test]
+fn compares_the_calls_of_a_function(rt: HostRuntime) -> Result<(), Fail> {
+    for (at_stack, at_frame, caller) in COMPARED {
+        let found = compared(rt.alloc(), at_stack, at_frame)?;
+        assert!(rt; found == caller, "{at_stack:x} {at_frame:x}");
+    }
+    Ok(())
+}
+
+/// The return address of a function of the first FDE, after `call *%rax` of a function that no FDE covers.
+const WORDS_OF_STARTS: [(u64, u64); 1] = [(0x7000 + 24, 0x4010e0)];
+
+#[test]
+fn ends_where_the_frame_pointer_is_0(rt: HostRuntime) -> Result<(), Fail> {
+    let moved_back = framehop::Error::FramepointerUnwindingMovedBackwards;
+    for (rbp, end) in [
+        (0, BacktraceEnd::FramePointerZero),
+        (8, BacktraceEnd::Refused(moved_back)),
+    ] {
+        let regs = UnwindRegsX86_64::new(0x401004, 0x7000, rbp);
+        let found = outline_of(rt.alloc(), &WORDS_OF_STARTS, regs, 10)?;
+        assert!(rt; (found.0, found.1) == (end, 2));
     }
     Ok(())
 }

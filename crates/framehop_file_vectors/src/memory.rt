@@ -1,6 +1,7 @@
 //! Memory and code of many ranges, in any order, and of ranges that overlap. The words are those of the file at the ranges' offsets.
 use framehop_memory::by_address::SegmentsByAddress;
 use framehop_memory::code::CodeSegments;
+use framehop_memory::left_out::{LeftOut, ReadPart};
 use framehop_memory::memory::{MemoryRange, ProcessMemory};
 use framehop_memory::segment::Segment;
 use std::alloc::{AllocError, Global};
@@ -279,5 +280,84 @@ fn finds_the_first_segment(rt: HostRuntime) -> Result<(), Fail> {
     assert_eq!(rt; is_code_at(31), Some(true));
     assert_eq!(rt; is_code_at(32), Some(false));
     assert_eq!(rt; is_code_at(48), None);
+    Ok(())
+}
+
+/// Returns a segment of which a file was read from an address on, with its bytes at an offset.
+fn read_part(start: u64, read: u64, end: u64, offset: u64) -> ReadPart {
+    let segment = MemoryRange {
+        start,
+        size: end.saturating_sub(start),
+        offset: 0,
+    };
+    let read = MemoryRange {
+        start: read,
+        size: end.saturating_sub(read),
+        offset,
+    };
+    ReadPart { segment, read }
+}
+
+/// Returns a segment that was read from 0x2000 on, and one of which nothing was read.
+fn parts() -> [ReadPart; 2] {
+    [
+        read_part(0x1000, 0x2000, 0x3000, 0),
+        read_part(0x4000, 0x5000, 0x5000, 0x1000),
+    ]
+}
+
+/// Addresses that are asked for one after another, and those that are told of them then.
+static ASKED: [(&[u64], &[u64]); 6] = [
+    (&[0x2000, 0x2fff], &[]),
+    (&[0xfff, 0x3000, 0x5000], &[]),
+    (&[0x1ff8], &[0x1ff8]),
+    (&[0x4000], &[0x4000]),
+    (&[0x1ff0, 0x1100, 0x1ff8], &[0x1100]),
+    (&[0x4ff8, 0x1000], &[0x1000, 0x4ff8]),
+];
+
+/// Whether of addresses that are noted just these are told.
+fn are_told(alloc: Global, asked: &[u64], told: &[u64]) -> Result<bool, AllocError> {
+    let left_out = LeftOut::new(alloc, &parts())?;
+    for address in asked {
+        left_out.note(*address);
+    }
+    Ok(left_out.asked(alloc)?.as_slice() == told)
+}
+
+/// Whether of addresses whose bytes or whose words are asked for just these are told.
+fn are_told_by_memory(
+    alloc: Global,
+    asked: &[u64],
+    told: &[u64],
+    are_words: bool,
+) -> Result<bool, AllocError> {
+    let bytes = Vec::from_elem(alloc, 0u8, 0x1000)?;
+    let left_out = LeftOut::new(alloc, &parts())?;
+    let memory = ProcessMemory::of_parts(alloc, bytes.as_slice(), &parts(), &left_out)?;
+    for address in asked {
+        if are_words {
+            memory.word_at(*address);
+        } else {
+            memory.bytes_from(*address);
+        }
+    }
+    Ok(left_out.asked(alloc)?.as_slice() == told)
+}
+
+#[test]
+fn tells_the_lowest_address_that_was_not_read(rt: HostRuntime) -> Result<(), Fail> {
+    for (asked, told) in ASKED {
+        assert!(rt; are_told(rt.alloc(), asked, told)?);
+    }
+    Ok(())
+}
+
+#[test]
+fn tells_what_memory_was_asked_for(rt: HostRuntime) -> Result<(), Fail> {
+    for (asked, told) in ASKED {
+        assert!(rt; are_told_by_memory(rt.alloc(), asked, told, false)?);
+        assert!(rt; are_told_by_memory(rt.alloc(), asked, told, true)?);
+    }
     Ok(())
 }

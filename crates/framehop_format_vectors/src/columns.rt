@@ -3,4 +3,5 @@
 mod aarch64;
 mod expressions;
 mod frames;
+mod runs;
 mod x86_64;

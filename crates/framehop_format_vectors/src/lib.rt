@@ -3,6 +3,8 @@
 #![tactic(auto)]
 
 #[cfg(test)]
+mod actions_x86_64;
+#[cfg(test)]
 mod analysis_aarch64;
 #[cfg(test)]
 mod analysis_x86_64;

@@ -16,6 +16,8 @@ mod mappings;
 #[cfg(test)]
 mod paths;
 #[cfg(test)]
+mod proved_caller;
+#[cfg(test)]
 mod readme;
 #[cfg(test)]
 mod reasons;

@@ -65,7 +65,7 @@ fn frames_of_stack(
     eh_frame: Vec<u8>,
     regs: UnwindRegsX86_64,
     stack: &[u64],
-) -> Result<(Vec<u64>, bool), Fail> {
+) -> Result<(Vec<u64>, bool), anyhow::Error> {
     // One counter for all unwinders that share a cache.
     let mut generations = Generations::new();
     let mut cache = CacheX86_64::new(alloc)?;

@@ -11,7 +11,7 @@ use std::alloc::Global;
 use std::test::Fail;
 
 /// A module of an ELF file that is loaded with its base at an address (AVMA).
-fn module_of_file(alloc: Global, file: &[u8], base: u64) -> Result<Module<Vec<u8>>, Fail> {
+fn module_of_file(alloc: Global, file: &[u8], base: u64) -> Result<Module<Vec<u8>>, anyhow::Error> {
     let header = read_file_header(file)?;
     let headers = read_section_headers(alloc, file, header)?;
     let names = read_section_names(file, header, headers.as_slice())?;

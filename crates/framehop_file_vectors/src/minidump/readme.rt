@@ -3,6 +3,7 @@
 use crate::elf::unwinder_of;
 use crate::minidump::x86_64::dump;
 use crate::pieces::holds;
+use anyhow::Context;
 use framehop::x86_64::{CacheX86_64, UnwindRegsX86_64, UnwinderX86_64};
 use framehop::{ExplicitModuleSectionInfo, Module, Unwinder};
 use framehop_memory::memory::ProcessMemory;
@@ -16,13 +17,17 @@ use std::alloc::Global;
 use std::test::Fail;
 
 /// The registers of a thread of a minidump. The thread that crashed has those of the exception.
-fn registers_of_thread(alloc: Global, file: &[u8], index: usize) -> Result<UnwindRegsX86_64, Fail> {
+fn registers_of_thread(
+    alloc: Global,
+    file: &[u8],
+    index: usize,
+) -> Result<UnwindRegsX86_64, anyhow::Error> {
     let streams = read_streams(alloc, file)?;
     let threads = read_threads(alloc, file, streams.as_slice())?;
     let exception = read_exception(file, streams.as_slice())?;
-    let thread = threads.get(index).copied().ok_or("no such thread")?;
+    let thread = threads.get(index).copied().context("no such thread")?;
     let context = read_located(file, context_of(thread, exception))?;
-    Ok(x86_64_registers(context).ok_or("no registers")?)
+    x86_64_registers(context).context("no registers")
 }
 
 /// The memory of the process, as far as a minidump has it.
