@@ -1,6 +1,5 @@
 #!/bin/sh
-# Compares the frames of a core file of this repository by framehop.py with those that framehop-stacks prints of it. The shared
-# library is FRAMEHOP_SO.
+# Compares a core file's frames by framehop.py with framehop-stacks'. The core file is this repository's, the shared library FRAMEHOP_SO.
 set -eu
 here=$(cd "$(dirname "$0")" && pwd)
 top=$here/../..

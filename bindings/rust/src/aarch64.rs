@@ -1,6 +1,8 @@
 //! Unwinding on aarch64.
-use crate::unwinder::{Ahead, FrameWords, Step, Unwinder, end_of, next_with, step_with, unwinder, walk_with};
-use crate::words::Words;
+use crate::unwinder::{
+    Ahead, Frame, FrameWords, Kept, Step, Unwinder, end_of, next_with, step_with, unwinder, walk_with,
+};
+use crate::words::Known;
 use crate::{
     AllocationPolicy, CacheStats, Error, FrameAddress, Generations, MayAllocateDuringUnwind, Module, ModuleListError,
     Owned, raw,
@@ -78,6 +80,19 @@ impl UnwindRegsAarch64 {
 }
 
 impl FrameWords for UnwindRegsAarch64 {
+    fn stack_pointer(&self) -> u64 {
+        self.sp()
+    }
+
+    fn frame_pointer(&self) -> u64 {
+        self.fp()
+    }
+
+    /// Each rule reads it first.
+    fn return_address(&self, words: [u64; 2]) -> u64 {
+        self.lr_mask().strip_ptr_auth(words[0])
+    }
+
     /// A step asks for the return address first, and in a frame record the frame pointer is in the word below it.
     fn words_from(&self, missing: u64) -> u64 {
         match missing.checked_sub(8) {

@@ -108,13 +108,14 @@
 //! leaves::<framehop_rattle::Module<Vec<u8>>>();
 //! ```
 
-use std::cell::OnceCell;
+use std::cell::{Cell, OnceCell};
 use std::fmt;
 use std::num::NonZeroU64;
 use std::rc::Rc;
 
 pub mod aarch64;
 mod fallible;
+mod layouts;
 mod module;
 mod raw;
 mod unwinder;
@@ -289,7 +290,13 @@ impl Drop for Owned {
 
 /// The counter from which lists of modules draw their numbers: one a thread, which its unwinders keep alive.
 #[derive(Clone)]
-struct Generations(Rc<Owned>);
+struct Generations(Rc<Counter>);
+
+/// The archive's counter, and this crate's own, since the archive tells nobody its numbers.
+struct Counter {
+    archive: Owned,
+    lists: Cell<u32>,
+}
 
 thread_local! {
     static GENERATIONS: OnceCell<Generations> = const { OnceCell::new() };
@@ -299,7 +306,19 @@ impl Generations {
     fn new() -> Result<Self, ModuleListError> {
         // SAFETY: the place is lent for the call
         let made = Owned::new(|place| unsafe { raw::framehop_generations_new(place) })?;
-        Ok(Generations(Rc::new(made)))
+        Ok(Generations(Rc::new(Counter { archive: made, lists: Cell::new(0) })))
+    }
+
+    /// The archive's counter for one call, which nobody else uses meanwhile.
+    fn handle(&self) -> raw::Handle {
+        self.0.archive.handle()
+    }
+
+    /// A number for a list of modules that no other list of this thread has: 0 where there are no more of them.
+    fn new_list(&self) -> u32 {
+        let list = self.0.lists.get().checked_add(1);
+        self.0.lists.set(list.unwrap_or(u32::MAX));
+        list.unwrap_or(0)
     }
 
     /// The counter of this thread. A second one is never made, since a cache may have served the first.

@@ -1,6 +1,7 @@
 //! What unwinders of all architectures have, and the iterator over the frames of a stack.
+use crate::layouts::{Asked, Layouts};
 use crate::words::{Chunks, Known, Words};
-use crate::{CacheStats, Error, FrameAddress, raw};
+use crate::{CacheStats, Error, FrameAddress, ModuleListError, raw};
 
 /// An unwinder for one architecture: the modules of one process, and unwinding by them.
 pub trait Unwinder: Clone {
@@ -75,7 +76,8 @@ pub trait Unwinder: Clone {
     }
 }
 
-/// The words that the step from a frame will ask for, as the archive has told with that frame, and how its rule was looked up.
+/// The words that the step from a frame will ask for, as the archive has told with that frame, and how its rule was looked up;
+/// or as an earlier step from there has shown, without a lookup.
 #[doc(hidden)]
 #[derive(Clone, Copy, Default)]
 pub struct Ahead(raw::Ahead);
@@ -139,72 +141,156 @@ pub(crate) trait Step<R> {
     fn counts(&mut self) -> CacheStats;
 }
 
-/// Steps until no word is missing. A step that asks for a word of which no window tells has gone on without it, so
-/// its answer may be another than that with the word: the registers are put back, and the step is made again. What the
-/// cache counts again is added to `recounted`.
-pub(crate) fn step_with<R: Copy>(
-    step: &mut impl Step<R>,
-    regs: &mut R,
-    words: &mut Words,
-    recounted: &mut CacheStats,
-    read_stack: &mut impl FnMut(u64) -> Result<u64, ()>,
-) -> Result<Option<u64>, Error> {
-    let before = *regs;
-    let mut counted = None;
-    words.clear();
-    loop {
-        let mut told = raw::Step::default();
-        let status = step.step(regs, words.windows(), &mut told);
-        if let Some(old) = &counted {
-            let new = step.counts();
-            *recounted = recounted.plus(&new.minus(old));
-            counted = Some(new);
-        }
-        if told.has_missing {
-            *regs = before;
-            counted = counted.or_else(|| Some(step.counts()));
-            words.push(told.missing, read_stack(told.missing).ok())?;
-            continue;
-        }
-        return match status {
-            raw::OK => Ok(Some(told.return_address)),
-            raw::END => Ok(None),
-            _ => Err(Error::of_status(status, told.unreadable)),
-        };
+/// A frame of an iterator.
+#[derive(Clone, Copy)]
+pub(crate) struct Frame {
+    pub address: FrameAddress,
+    /// The list of modules, or 0.
+    pub modules: u32,
+}
+
+/// What a cache keeps beside the archive's.
+pub(crate) struct Kept {
+    pub tries: Tries,
+    layouts: Layouts,
+}
+
+/// The words of the steps that are tried again for a missing one, and the lookups that the archive has counted for tries.
+pub(crate) struct Tries {
+    words: Words,
+    recounted: CacheStats,
+}
+
+impl Kept {
+    pub fn new(may_allocate: bool) -> Result<Self, ModuleListError> {
+        let tries = Tries { words: Words::new(may_allocate)?, recounted: CacheStats::default() };
+        Ok(Kept { tries, layouts: Layouts::new()? })
+    }
+
+    /// The counts of the archive's cache without those of lookups that were only made again.
+    pub fn counted(&self, counts: &CacheStats) -> CacheStats {
+        counts.minus(&self.tries.recounted)
     }
 }
 
-/// Steps for an iterator: the words that are known ahead are read first, and mostly there are no others. What the cache
-/// counts beside the one lookup that a step is, is added to `recounted`.
-#[inline]
-pub(crate) fn next_with<R>(
+/// Steps until no word is missing, with the words that are known. A step that asks for a word of which no window tells has
+/// gone on without it, so its answer may be another than that with the word: the registers are put back, and the step is
+/// made again.
+#[inline(always)]
+pub(crate) fn step_with<R: Copy>(
     step: &mut impl Step<R>,
     regs: &mut R,
-    words: &mut Words,
-    recounted: &mut CacheStats,
+    tries: &mut Tries,
+    known: &Known,
+    read_stack: &mut impl FnMut(u64) -> Result<u64, ()>,
+) -> Result<Option<u64>, Error> {
+    let before = *regs;
+    let mut told = raw::Step::default();
+    let mut status = known.lend(|windows| step.step(regs, windows, &mut told));
+    if told.has_missing {
+        *regs = before;
+        status = step_over(step, regs, tries, known, &mut told, read_stack)?;
+    }
+    match status {
+        raw::OK => Ok(Some(told.return_address)),
+        raw::END => Ok(None),
+        _ => Err(Error::of_status(status, told.unreadable)),
+    }
+}
+
+/// Steps until no word is missing, the registers put back before each try. What the cache counts again is added to
+/// `recounted`.
+#[cold]
+fn step_over<R: Copy>(
+    step: &mut impl Step<R>,
+    regs: &mut R,
+    tries: &mut Tries,
+    known: &Known,
+    told: &mut raw::Step,
+    read_stack: &mut impl FnMut(u64) -> Result<u64, ()>,
+) -> Result<i32, Error> {
+    let Tries { words, recounted } = tries;
+    let before = *regs;
+    let mut old = step.counts();
+    words.set(known)?;
+    loop {
+        words.push(told.missing, read_stack(told.missing).ok())?;
+        let status = step.step(regs, words.windows(), told);
+        let new = step.counts();
+        *recounted = recounted.plus(&new.minus(&old));
+        old = new;
+        if !told.has_missing {
+            return Ok(status);
+        }
+        *regs = before;
+    }
+}
+
+/// Steps for an iterator from a frame. The words that are known ahead are read first, and mostly there are no others. Where
+/// it is known from an earlier step which words the step from the caller will ask for, the archive is not asked to find them.
+#[inline(always)]
+pub(crate) fn next_with<R: FrameWords>(
+    step: &mut impl Step<R>,
+    frame: Frame,
+    regs: &mut R,
+    kept: &mut Kept,
     ahead: &mut Ahead,
     read_stack: &mut impl FnMut(u64) -> Result<u64, ()>,
 ) -> Result<Option<u64>, Error> {
     let Ahead(before) = std::mem::take(ahead);
     let known = Known::read(&before, read_stack);
+    // with a rule the first lookup of a frame is a hit, and so is each further one
+    if before.count > 0 && matches!(before.lookup, raw::NO_LOOKUP | raw::LOOKUP_HIT) {
+        let caller = regs.return_address(known.ends());
+        if let Some(layout) = kept.layouts.find(caller, frame.modules) {
+            let found = step_with(step, regs, &mut kept.tries, &known, read_stack)?;
+            if found == Some(caller) {
+                *ahead = Ahead(layout.words(regs));
+            }
+            return Ok(found);
+        }
+    }
+    *ahead = Ahead(before);
+    next_told(step, frame, regs, kept, &known, ahead, read_stack)
+}
+
+/// Steps for an iterator by a call that also tells the words of the caller. What the cache counts beside the one lookup that
+/// a step is, is added to `recounted`.
+#[inline(never)]
+fn next_told<R: FrameWords>(
+    step: &mut impl Step<R>,
+    frame: Frame,
+    regs: &mut R,
+    kept: &mut Kept,
+    known: &Known,
+    ahead: &mut Ahead,
+    read_stack: &mut impl FnMut(u64) -> Result<u64, ()>,
+) -> Result<Option<u64>, Error> {
+    let Ahead(before) = std::mem::take(ahead);
+    let (stack_pointer, frame_pointer) = (regs.stack_pointer(), regs.frame_pointer());
+    let mut asked = Asked::new(&before);
     let mut told = raw::Next::default();
-    let status = known.lend(|windows| step.next(regs, windows, &mut told));
+    let mut status = known.lend(|windows| step.next(regs, windows, &mut told));
+    let is_by_rule = told.lookup == raw::LOOKUP_HIT && frame.address.is_return_address();
     if before.lookup != raw::NO_LOOKUP && before.lookup != told.lookup {
         // the lookup that counts is the one by which the words were told
-        recounted.take(before.lookup);
-        recounted.add(told.lookup);
+        kept.tries.recounted.take(before.lookup);
+        kept.tries.recounted.add(told.lookup);
     }
-    let status = match status {
-        raw::MISSING_WORD => next_over(step, regs, words, &known, recounted, &mut told, read_stack)?,
-        _ => status,
-    };
+    if status == raw::MISSING_WORD {
+        status = next_over(step, regs, &mut kept.tries, known, &mut told, &mut asked, read_stack)?;
+    }
     match status {
         raw::OK => {
-            recounted.add(told.ahead.lookup);
+            kept.tries.recounted.add(told.ahead.lookup);
             if told.ahead.lookup == raw::LOOKUP_HIT && told.ahead.count > 0 {
-                recounted.add(raw::LOOKUP_HIT);
+                kept.tries.recounted.add(raw::LOOKUP_HIT);
             }
             *ahead = Ahead(told.ahead);
+            if is_by_rule {
+                let layout = asked.layout(stack_pointer, frame_pointer, regs.stack_pointer());
+                kept.layouts.note(frame.address.address(), frame.modules, layout);
+            }
             Ok(Some(told.return_address))
         }
         raw::END => Ok(None),
@@ -212,34 +298,38 @@ pub(crate) fn next_with<R>(
     }
 }
 
-/// Steps until no word is missing, with the words that are known: a rule that pops registers reads more than two, and the
-/// first step of a walk was told none.
+/// Steps until no word is missing, with the words that are known: the first step of a walk was told none.
 #[cold]
 fn next_over<R>(
     step: &mut impl Step<R>,
     regs: &mut R,
-    words: &mut Words,
+    tries: &mut Tries,
     known: &Known,
-    recounted: &mut CacheStats,
     told: &mut raw::Next,
+    asked: &mut Asked,
     read_stack: &mut impl FnMut(u64) -> Result<u64, ()>,
 ) -> Result<i32, Error> {
-    words.clear();
-    for (address, word) in known.words() {
-        words.push(address, word)?;
-    }
+    tries.words.set(known)?;
     loop {
-        words.push(told.unreadable, read_stack(told.unreadable).ok())?;
-        let status = step.next(regs, words.windows(), told);
-        recounted.add(told.lookup);
+        asked.push(told.unreadable);
+        tries.words.push(told.unreadable, read_stack(told.unreadable).ok())?;
+        let status = step.next(regs, tries.words.windows(), told);
+        tries.recounted.add(told.lookup);
         if status != raw::MISSING_WORD {
             return Ok(status);
         }
     }
 }
 
-/// Registers by which it is known where a frame's words begin.
-pub(crate) trait FrameWords {
+/// Registers by which it is known where a frame's words are.
+pub(crate) trait FrameWords: Copy {
+    fn stack_pointer(&self) -> u64;
+
+    fn frame_pointer(&self) -> u64;
+
+    /// Returns the return address (AVMA) that is read by a rule which asks for these words first and last.
+    fn return_address(&self, words: [u64; 2]) -> u64;
+
     /// Returns the address (AVMA) from which a frame's words are read, by that of the first one that is missing.
     fn words_from(&self, missing: u64) -> u64;
 }
@@ -294,8 +384,7 @@ macro_rules! unwinder {
         /// A cache of unwind rules, for all unwinders of a thread that have its policy.
         pub struct $cache<P: AllocationPolicy = MayAllocateDuringUnwind> {
             cache: Owned,
-            words: Words,
-            recounted: CacheStats,
+            kept: Kept,
             policy: PhantomData<P>,
         }
 
@@ -328,16 +417,16 @@ macro_rules! unwinder {
 
             /// An empty cache of any policy, unless memory runs out.
             pub fn try_new_in() -> Result<Self, ModuleListError> {
-                let words = Words::new(P::MAY_ALLOCATE)?;
+                let kept = Kept::new(P::MAY_ALLOCATE)?;
                 // SAFETY: the place is lent for the call
                 let cache = Owned::new(|place| unsafe { raw::$cache_new(P::MAY_ALLOCATE, place) })?;
-                Ok($cache { cache, words, recounted: CacheStats::default(), policy: PhantomData })
+                Ok($cache { cache, kept, policy: PhantomData })
             }
 
             /// Returns how many lookups hit and missed: one a frame, and one more for each time that `walk_with` has asked
             /// for words.
             pub fn stats(&self) -> CacheStats {
-                counts(&self.cache).minus(&self.recounted)
+                self.kept.counted(&counts(&self.cache))
             }
         }
 
@@ -358,6 +447,7 @@ macro_rules! unwinder {
         }
 
         impl Step<$regs> for StepFrom<'_> {
+            #[inline]
             fn step(&mut self, regs: &mut $regs, windows: &[raw::Window], told: &mut raw::Step) -> i32 {
                 // SAFETY: an unwinder and a cache of one policy, and windows that are lent for the call. The callback
                 // is not called meanwhile.
@@ -402,6 +492,8 @@ macro_rules! unwinder {
             unwinder: Owned,
             generations: Generations,
             modules: Vec<Module<D>>,
+            /// The number of this list of modules: another one for each list of the thread, or 0.
+            list: u32,
             policy: PhantomData<P>,
         }
 
@@ -425,8 +517,9 @@ macro_rules! unwinder {
                 let generations = Generations::of_thread()?;
                 // SAFETY: the counter is used by one call at a time, since it stays on its thread
                 let unwinder =
-                    Owned::new(|place| unsafe { raw::$new(&mut generations.0.handle(), P::MAY_ALLOCATE, place) })?;
-                Ok($unwinder { unwinder, generations, modules: Vec::new(), policy: PhantomData })
+                    Owned::new(|place| unsafe { raw::$new(&mut generations.handle(), P::MAY_ALLOCATE, place) })?;
+                let list = generations.new_list();
+                Ok($unwinder { unwinder, generations, modules: Vec::new(), list, policy: PhantomData })
             }
 
             /// Returns an unwinder with the same modules, unless memory runs out.
@@ -436,7 +529,8 @@ macro_rules! unwinder {
                 modules.extend(self.modules.iter().cloned());
                 // SAFETY: the modules' bytes are kept for the clone too
                 let unwinder = Owned::new(|place| unsafe { raw::$clone(&mut self.unwinder.handle(), place) })?;
-                Ok($unwinder { unwinder, generations: self.generations.clone(), modules, policy: PhantomData })
+                let (generations, list) = (self.generations.clone(), self.list);
+                Ok($unwinder { unwinder, generations, modules, list, policy: PhantomData })
             }
 
             /// Removes the newest module that starts at the address (AVMA), if there is one, unless generations run
@@ -446,11 +540,12 @@ macro_rules! unwinder {
                 let status = unsafe {
                     raw::$remove_module(
                         &mut self.unwinder.handle(),
-                        &mut self.generations.0.handle(),
+                        &mut self.generations.handle(),
                         module_avma_range_start,
                     )
                 };
                 ModuleListError::of_status(status)?;
+                self.list = self.generations.new_list();
                 let starts = |module: &Module<D>| module.avma_range().start == module_avma_range_start;
                 if let Some(newest) = self.modules.iter().rposition(starts) {
                     self.modules.remove(newest);
@@ -541,7 +636,7 @@ macro_rules! unwinder {
                 let status = unsafe {
                     raw::$add_module(
                         &mut self.unwinder.handle(),
-                        &mut self.generations.0.handle(),
+                        &mut self.generations.handle(),
                         avma.start,
                         avma.end,
                         base_avma,
@@ -549,6 +644,7 @@ macro_rules! unwinder {
                     )
                 };
                 let added = ModuleListError::of_status(status);
+                self.list = self.generations.new_list();
                 if added.is_err() {
                     self.modules.pop();
                 }
@@ -596,9 +692,9 @@ macro_rules! unwinder {
                 cache: &mut $cache<P>,
                 read_stack: &mut F,
             ) -> Result<Option<u64>, Error> {
-                let $cache { cache, words, recounted, .. } = cache;
+                let $cache { cache, kept, .. } = cache;
                 let mut step = StepFrom { unwinder: &self.unwinder, cache, address };
-                step_with(&mut step, regs, words, recounted, read_stack)
+                step_with(&mut step, regs, &mut kept.tries, &Known::NONE, read_stack)
             }
 
             fn next_frame<F: FnMut(u64) -> Result<u64, ()>>(
@@ -609,9 +705,10 @@ macro_rules! unwinder {
                 ahead: &mut Ahead,
                 read_stack: &mut F,
             ) -> Result<Option<u64>, Error> {
-                let $cache { cache, words, recounted, .. } = cache;
+                let $cache { cache, kept, .. } = cache;
+                let frame = Frame { address, modules: self.list };
                 let mut step = StepFrom { unwinder: &self.unwinder, cache, address };
-                next_with(&mut step, regs, words, recounted, ahead, read_stack)
+                next_with(&mut step, frame, regs, kept, ahead, read_stack)
             }
         }
     };

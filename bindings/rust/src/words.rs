@@ -28,9 +28,11 @@ impl Words {
         self.windows.try_reserve(more).map_err(|_| Error::OutOfMemory)
     }
 
-    pub fn clear(&mut self) {
+    /// Puts the words that are known in the place of those of the last step.
+    pub fn set(&mut self, known: &Known) -> Result<(), Error> {
         self.words.clear();
         self.windows.clear();
+        known.words().try_for_each(|(address, word)| self.push(address, word))
     }
 
     /// Adds a word, or that the word at the address can't be read.
@@ -63,62 +65,69 @@ pub(crate) struct Known {
     /// The windows by their addresses and their counts of words: a window without words is a word that can't be read.
     windows: [(u64, usize); 2],
     count: usize,
+    /// The first and the last word that were asked for, 0 where one can't be read.
+    ends: [u64; 2],
 }
 
 impl Known {
+    /// No word is known.
+    pub const NONE: Known = Known { words: [0; 2], windows: [(0, 0); 2], count: 0, ends: [0; 2] };
+
     /// Reads the words that are told, the second one only where the first one can be read.
-    #[inline]
+    #[inline(always)]
     pub fn read(ahead: &raw::Ahead, read_stack: &mut impl FnMut(u64) -> Result<u64, ()>) -> Self {
         let raw::Ahead { first, second, .. } = *ahead;
         if ahead.count == 0 {
-            return Known { words: [0; 2], windows: [(0, 0); 2], count: 0 };
+            return Known::NONE;
         }
         let Ok(one) = read_stack(first) else {
-            return Known { words: [0; 2], windows: [(first, 0), (0, 0)], count: 1 };
+            return Known { words: [0; 2], windows: [(first, 0), (0, 0)], count: 1, ends: [0; 2] };
         };
         if ahead.count == 1 {
-            return Known { words: [one, 0], windows: [(first, 1), (0, 0)], count: 1 };
+            return Known { words: [one, 0], windows: [(first, 1), (0, 0)], count: 1, ends: [one, one] };
         }
-        match read_stack(second) {
-            Ok(other) if second.checked_sub(first) == Some(8) => {
-                Known { words: [one, other], windows: [(first, 2), (0, 0)], count: 1 }
-            }
-            Ok(other) if first.checked_sub(second) == Some(8) => {
-                Known { words: [other, one], windows: [(second, 2), (0, 0)], count: 1 }
-            }
-            Ok(other) => Known { words: [one, other], windows: [(first, 1), (second, 1)], count: 2 },
-            Err(()) => Known { words: [one, 0], windows: [(first, 1), (second, 0)], count: 2 },
+        let Ok(other) = read_stack(second) else {
+            return Known { words: [one, 0], windows: [(first, 1), (second, 0)], count: 2, ends: [one, 0] };
+        };
+        let ends = [one, other];
+        if second.wrapping_sub(first) == 8 && first < second {
+            Known { words: [one, other], windows: [(first, 2), (0, 0)], count: 1, ends }
+        } else if first.wrapping_sub(second) == 8 && second < first {
+            Known { words: [other, one], windows: [(second, 2), (0, 0)], count: 1, ends }
+        } else {
+            Known { words: [one, other], windows: [(first, 1), (second, 1)], count: 2, ends }
         }
     }
 
-    /// The words with their addresses; `None` is one that can't be read.
+    /// The first and the last word that were asked for, 0 where one can't be read.
+    #[inline]
+    pub fn ends(&self) -> [u64; 2] {
+        self.ends
+    }
+
+    /// The words with their addresses, from each window's lowest one upwards; `None` is one that can't be read.
     pub fn words(&self) -> impl Iterator<Item = (u64, Option<u64>)> {
-        let mut known = [None; 2];
-        match (self.count, self.windows) {
-            (0, _) => {}
-            (1, [(base, 2), _]) => known = [Some((base, Some(self.words[0]))), Some((base + 8, Some(self.words[1])))],
-            (count, windows) => {
-                for at in 0..count {
-                    let (base, words) = windows[at];
-                    known[at] = Some((base, (words > 0).then_some(self.words[at])));
-                }
-            }
-        }
-        known.into_iter().flatten()
+        let mut rest = &self.words[..];
+        self.windows[..self.count].iter().flat_map(move |&(base, count)| {
+            let (words, others) = rest.split_at(count);
+            rest = others;
+            let empty = (count == 0).then_some((base, None));
+            words.iter().enumerate().map(move |(at, word)| (base + 8 * at as u64, Some(*word))).chain(empty)
+        })
     }
 
     /// Lends the windows to a call.
     #[inline]
     pub fn lend<T>(&self, call: impl FnOnce(&[raw::Window]) -> T) -> T {
-        let window = |at: usize| raw::Window {
+        let window = |at: usize, from: usize| raw::Window {
             base: self.windows[at].0,
-            words: self.words[at..].as_ptr(),
+            words: self.words[from..].as_ptr(),
             word_count: self.windows[at].1,
         };
         match self.count {
             0 => call(&[]),
-            1 => call(&[window(0)]),
-            _ => call(&[window(0), window(1)]),
+            1 => call(&[window(0, 0)]),
+            _ => call(&[window(0, 0), window(1, self.windows[0].1)]),
         }
     }
 }

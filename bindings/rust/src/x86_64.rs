@@ -1,6 +1,8 @@
 //! Unwinding on x86_64.
-use crate::unwinder::{Ahead, FrameWords, Step, Unwinder, end_of, next_with, step_with, unwinder, walk_with};
-use crate::words::Words;
+use crate::unwinder::{
+    Ahead, Frame, FrameWords, Kept, Step, Unwinder, end_of, next_with, step_with, unwinder, walk_with,
+};
+use crate::words::Known;
 use crate::{
     AllocationPolicy, CacheStats, Error, FrameAddress, Generations, MayAllocateDuringUnwind, Module, ModuleListError,
     Owned, raw,
@@ -76,6 +78,19 @@ impl UnwindRegsX86_64 {
 }
 
 impl FrameWords for UnwindRegsX86_64 {
+    fn stack_pointer(&self) -> u64 {
+        self.sp()
+    }
+
+    fn frame_pointer(&self) -> u64 {
+        self.bp()
+    }
+
+    /// Each rule reads it last.
+    fn return_address(&self, words: [u64; 2]) -> u64 {
+        words[1]
+    }
+
     /// The first word that a step asks for is mostly the lowest.
     fn words_from(&self, missing: u64) -> u64 {
         missing

@@ -301,6 +301,174 @@ fn shares_a_cache() {
     }
 }
 
+/// A module of 256 bytes with a function whose compact unwind info for x86_64 is one opcode.
+fn compact_at(start: u64, opcode: u32) -> Module<Vec<u8>> {
+    let words = [1, 28, 0, 28, 0, 28, 2, 0x10, 52, 52, 0x100, 0, 52, 2, 0x10008, 0x10, opcode];
+    let info: Vec<u8> = words.iter().flat_map(|word: &u32| word.to_le_bytes()).collect();
+    let info = ExplicitModuleSectionInfo { unwind_info: Some(info), ..Default::default() };
+    Module::new("m".into(), start..start + 0x100, start, info)
+}
+
+/// A module of 256 bytes with a function of a PE file that pushes rsi, rdi and rbx, and lowers rsp by 32.
+fn pops_at(start: u64) -> Module<Vec<u8>> {
+    let pdata = [0u32, 0x100, 0x3000].iter().flat_map(|it| it.to_le_bytes()).collect();
+    // UWOP_ALLOC_SMALL, then UWOP_PUSH_NONVOL of each register, at their offsets in a prologue of 8 bytes
+    let xdata = vec![0x01, 0x08, 4, 0, 0x08, 0x32, 0x04, 0x30, 0x02, 0x70, 0x01, 0x60];
+    Module::new("m".into(), start..start + 0x100, start, Pe { pdata: Some(pdata), xdata: Some(xdata) })
+}
+
+/// A module of 256 bytes with a function whose CFA is the word 8 bytes above rsp, which no rule says.
+fn expression_at(start: u64) -> Module<Vec<u8>> {
+    // version 1, factors 1 and -8, the return address in column 16 and at CFA - 8
+    let cie = [&[0xff; 4], &[1, 0, 1, 0x78, 16, 0x0c, 7, 8, 0x90, 1, 0, 0][..]].concat();
+    // DW_CFA_def_cfa_expression of DW_OP_breg7 8, DW_OP_deref
+    let range = [0x1000u64, 0x100].iter().flat_map(|it| it.to_le_bytes()).collect::<Vec<u8>>();
+    let fde = [&[0; 4], &range[..], &[0x0f, 3, 0x77, 8, 0x06, 0, 0, 0]].concat();
+    let entries = [cie, fde].map(|entry| [&(entry.len() as u32).to_le_bytes(), &entry[..]].concat());
+    let info =
+        ExplicitModuleSectionInfo { base_svma: 0x1000, debug_frame: Some(entries.concat()), ..Default::default() };
+    Module::new("m".into(), start..start + 0x100, start, info)
+}
+
+/// Numbers that look random, and are the same each time.
+struct Numbers(u64);
+
+impl Numbers {
+    fn below(&mut self, limit: u64) -> u64 {
+        self.0 = self.0.wrapping_mul(6364136223846793005).wrapping_add(1442695040888963407);
+        (self.0 >> 33) % limit
+    }
+}
+
+/// Where the stacks of [`random_stack`] are.
+const STACK: u64 = 0x7ffd_0000_0000;
+
+fn word_at(stack: &[Option<u64>], address: u64) -> Result<u64, ()> {
+    let offset = address.checked_sub(STACK).filter(|offset| offset % 8 == 0).ok_or(())?;
+    stack.get(offset as usize / 8).copied().flatten().ok_or(())
+}
+
+/// What a walk shows: each frame with its registers, the words that were asked for up to there, and how it ended.
+type Shown<R> = (Vec<(u64, R, usize)>, Result<Option<u64>, Error>, Vec<u64>);
+
+/// Walks with the iterator, and after an error once more from the frame where it is.
+fn by_iterator<U: Unwinder<UnwindRegs: Copy>>(
+    unwinder: &U,
+    regs: U::UnwindRegs,
+    cache: &mut U::Cache,
+    stack: &[Option<u64>],
+) -> Shown<U::UnwindRegs> {
+    let asked = RefCell::new(Vec::new());
+    let mut read_stack = |address: u64| {
+        asked.borrow_mut().push(address);
+        word_at(stack, address)
+    };
+    let mut iter = unwinder.iter_frames(0x7fff, regs, cache, &mut read_stack);
+    let mut frames = Vec::new();
+    let end = loop {
+        match iter.next() {
+            Ok(Some(frame)) => frames.push((frame.address(), *iter.regs(), asked.borrow().len())),
+            Ok(None) => break Ok(None),
+            Err(error) => break Err(error),
+        }
+    };
+    assert_eq!(iter.next().map(|it| it.map(FrameAddress::address)), end);
+    (frames, end, asked.into_inner())
+}
+
+/// The same by single steps.
+fn by_steps<U: Unwinder<UnwindRegs: Copy>>(
+    unwinder: &U,
+    mut regs: U::UnwindRegs,
+    cache: &mut U::Cache,
+    stack: &[Option<u64>],
+) -> Shown<U::UnwindRegs> {
+    let asked = RefCell::new(Vec::new());
+    let mut read_stack = |address: u64| {
+        asked.borrow_mut().push(address);
+        word_at(stack, address)
+    };
+    let mut frames = vec![(0x7fff, regs, 0)];
+    let mut frame = FrameAddress::from_instruction_pointer(0x7fff);
+    let end = loop {
+        match unwinder.unwind_frame(frame, &mut regs, cache, &mut read_stack) {
+            Ok(Some(address)) => {
+                frames.push((address, regs, asked.borrow().len()));
+                frame = FrameAddress::from_return_address(address).unwrap();
+            }
+            end => break end,
+        }
+    };
+    if end.is_err() {
+        assert_eq!(unwinder.unwind_frame(frame, &mut regs, cache, &mut read_stack), end);
+    }
+    (frames, end, asked.into_inner())
+}
+
+/// A stack of words that lead from frame to frame for a while: values of the frame pointer a little above, return addresses, and
+/// words that can't be read.
+fn random_stack(numbers: &mut Numbers) -> Vec<Option<u64>> {
+    let word = |at: u64| match numbers.below(64) {
+        0 => None,
+        1 => Some(0),
+        2..30 => Some(STACK + 8 * (at + 1 + numbers.below(6))),
+        _ => Some(0x10080 + 0x100 * numbers.below(12)),
+    };
+    (0..256).map(word).collect()
+}
+
+/// Also where the words of a frame are known from an earlier walk, the iterator shows what single steps do: frames, registers,
+/// the words that are asked for in their order, and counts. Modules come and go meanwhile.
+#[test]
+fn iterates_as_single_steps_do() {
+    let mut numbers = Numbers(1);
+    let (mut unwinder, mut cache, mut others) =
+        (UnwinderX86_64::<Vec<u8>>::new(), CacheX86_64::new(), CacheX86_64::new());
+    unwinder.add_module(pops_at(0x10a00));
+    unwinder.add_module(expression_at(0x10b00));
+    let mut longest = 0;
+    for walk in 0..20_000 {
+        if walk % 1000 == 0 {
+            for at in 0..10 {
+                unwinder.remove_module(0x10000 + 0x100 * at);
+                let mode = 0x0100_0000 * (1 + numbers.below(2) as u32);
+                let (size, pops, order) = (numbers.below(4) + 7, numbers.below(7), numbers.below(6));
+                let opcode = mode | (size << 16 | pops << 10 | order) as u32;
+                unwinder.add_module(compact_at(0x10000 + 0x100 * at, opcode));
+            }
+        }
+        let stack = random_stack(&mut numbers);
+        let (sp, fp) = (STACK + 8 * numbers.below(4), STACK + 8 * numbers.below(12));
+        let mut regs = UnwindRegsX86_64::new(0x7fff, sp, fp);
+        regs.set(Reg::RBX, numbers.below(1000));
+        let shown = by_iterator(&unwinder, regs, &mut cache, &stack);
+        assert_eq!(shown, by_steps(&unwinder, regs, &mut others, &stack), "in walk {walk}");
+        assert_eq!(cache.stats(), others.stats(), "in walk {walk}");
+        longest = longest.max(shown.0.len());
+    }
+    assert!(longest > 12, "{longest}");
+}
+
+/// The same on aarch64, by frame records.
+#[test]
+fn iterates_as_single_steps_do_on_aarch64() {
+    let mut numbers = Numbers(2);
+    let (unwinder, mut cache, mut others) =
+        (UnwinderAarch64::<Vec<u8>>::new(), CacheAarch64::new(), CacheAarch64::new());
+    for walk in 0..5_000 {
+        let mut stack = random_stack(&mut numbers);
+        for word in stack.iter_mut().skip(1).step_by(2) {
+            *word = word.map(|word| if word >= STACK { 0xab00_0000_0001_0080 } else { word });
+        }
+        let (sp, fp) = (STACK + 8 * numbers.below(4), STACK + 16 * numbers.below(6));
+        let mask = PtrAuthMask::new_24_40();
+        let regs = UnwindRegsAarch64::new_with_ptr_auth_mask(mask, 0x10080, sp, fp);
+        let shown = by_iterator(&unwinder, regs, &mut cache, &stack);
+        assert_eq!(shown, by_steps(&unwinder, regs, &mut others, &stack), "in walk {walk}");
+        assert_eq!(cache.stats(), others.stats(), "in walk {walk}");
+    }
+}
+
 /// The names that are asked for, in their order.
 #[derive(Default)]
 struct Asked {

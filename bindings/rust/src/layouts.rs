@@ -1,0 +1,189 @@
+//! Where steps have found the words that they asked for, so that the next step from the same return address needs no call
+//! of the archive to learn of them.
+//!
+//! A rule of the archive's cache asks for words that lie at constant offsets from the stack pointer, or from the frame
+//! pointer. So one step shows them for each later one with the same distance between both pointers, and a second one with
+//! another distance shows from which of the two they are counted. A layout only says what is read before a step: which
+//! frame the words lead to is the archive's to say, and a word that it asks for besides is read for it.
+use crate::unwinder::FrameWords;
+use crate::{ModuleListError, raw};
+
+/// How many sets of two layouts are kept, a power of two.
+const SETS: usize = 512;
+
+/// The pointer from which the offsets of a layout are counted.
+#[derive(Clone, Copy, PartialEq, Eq)]
+enum Base {
+    /// Either one: one step can't tell. The offsets are those from the stack pointer, as long as the frame pointer lies
+    /// at the same distance above it.
+    Either,
+    StackPointer,
+    FramePointer,
+}
+
+/// How far from its base a layout may have a word, or the caller's stack pointer, in bytes. Offsets in rules are below 2^20.
+const FARTHEST: u64 = 1 << 24;
+
+/// Which words a step from a return address asks for, one or two, by their offsets in bytes.
+#[derive(Clone, Copy)]
+pub(crate) struct Layout {
+    base: Base,
+    count: u8,
+    first: i32,
+    second: i32,
+    /// The offset of the caller's stack pointer.
+    end: i32,
+    /// How many bytes the frame pointer lies above the stack pointer, where the base may be either.
+    distance: i32,
+}
+
+impl Layout {
+    const NONE: Layout = Layout { base: Base::Either, count: 0, first: 0, second: 0, end: 0, distance: 0 };
+
+    /// The words that the step with these registers asks for, or none where it may be refused, or end the walk, without
+    /// asking for them.
+    #[inline(always)]
+    pub fn words(&self, regs: &impl FrameWords) -> raw::Ahead {
+        let (sp, fp) = (regs.stack_pointer(), regs.frame_pointer());
+        let is_by_frame_pointer = self.base == Base::FramePointer;
+        let base = if is_by_frame_pointer { fp } else { sp };
+        let at = |offset: i32| base.wrapping_add(offset as u64);
+        // no sum wraps
+        let is_inside = base.wrapping_sub(FARTHEST) < u64::MAX - 2 * FARTHEST;
+        let is_either = self.base == Base::Either && fp.wrapping_sub(sp) != self.distance as u64;
+        if !is_inside || is_either || at(self.end) <= sp {
+            return raw::Ahead::default();
+        }
+        raw::Ahead { first: at(self.first), second: at(self.second), count: self.count.into(), lookup: raw::NO_LOOKUP }
+    }
+
+    /// What this layout and that of a later step tell together, if they agree.
+    fn with(&self, later: &Layout) -> Option<Layout> {
+        if self.count != later.count {
+            return None;
+        }
+        let by_stack_pointer = Layout { base: Base::StackPointer, ..*self };
+        let told = match self.base {
+            Base::StackPointer | Base::FramePointer => *self,
+            Base::Either if later.base == Base::Either && later.distance == self.distance => *self,
+            Base::Either if self.offsets() == later.offsets() => by_stack_pointer,
+            Base::Either => self.by_frame_pointer()?,
+        };
+        let later = if told.base == Base::FramePointer { later.by_frame_pointer()? } else { *later };
+        (told.offsets() == later.offsets()).then_some(told)
+    }
+
+    fn offsets(&self) -> [i32; 3] {
+        [self.first, self.second, self.end]
+    }
+
+    /// The layout by offsets from the frame pointer, where that may be the base.
+    fn by_frame_pointer(&self) -> Option<Layout> {
+        if self.base != Base::Either {
+            return None;
+        }
+        let offset = |offset: i32| offset.checked_sub(self.distance);
+        let (first, second, end) = (offset(self.first)?, offset(self.second)?, offset(self.end)?);
+        Some(Layout { base: Base::FramePointer, first, second, end, ..*self })
+    }
+}
+
+/// The words (AVMAs) that a step has asked for, in their order, as far as they are no more than two.
+pub(crate) struct Asked {
+    words: [u64; 2],
+    count: usize,
+}
+
+impl Asked {
+    /// Those that were known before the step.
+    pub fn new(ahead: &raw::Ahead) -> Self {
+        Asked { words: [ahead.first, ahead.second], count: ahead.count as usize }
+    }
+
+    pub fn push(&mut self, address: u64) {
+        if let Some(place) = self.words.get_mut(self.count) {
+            *place = address;
+        }
+        self.count += 1;
+    }
+
+    /// The layout of the words, by the pointers of the step's frame and the caller's stack pointer (AVMAs), if there are
+    /// one or two.
+    pub fn layout(&self, stack_pointer: u64, frame_pointer: u64, caller_stack_pointer: u64) -> Option<Layout> {
+        let (first, second) = match self.count {
+            1 => (self.words[0], self.words[0]),
+            2 => (self.words[0], self.words[1]),
+            _ => return None,
+        };
+        let offset = |address: u64, limit: u64| {
+            let offset = address.wrapping_sub(stack_pointer) as i64;
+            (offset.unsigned_abs() < limit).then_some(offset as i32)
+        };
+        let near = |address: u64| offset(address, FARTHEST / 4);
+        let (first, second, end) = (near(first)?, near(second)?, near(caller_stack_pointer)?);
+        // no rule has such words so far from the frame pointer
+        let by_either = offset(frame_pointer, FARTHEST / 2).map(|distance| (Base::Either, distance));
+        let (base, distance) = by_either.unwrap_or((Base::StackPointer, 0));
+        Some(Layout { base, count: self.count as u8, first, second, end, distance })
+    }
+}
+
+/// A layout with the return address (AVMA) that it is of, and the list of modules by which the rule there is made.
+#[derive(Clone, Copy)]
+struct Entry {
+    address: u64,
+    modules: u32,
+    layout: Layout,
+}
+
+impl Entry {
+    /// Of no list of modules.
+    const NONE: Entry = Entry { address: 0, modules: 0, layout: Layout::NONE };
+
+    fn is_of(&self, address: u64, modules: u32) -> bool {
+        self.address == address && self.modules == modules
+    }
+}
+
+/// The layouts of the frames that were unwound with a cache, by their return addresses: of those that share a set the two
+/// that were noted last.
+pub(crate) struct Layouts(Vec<[Entry; 2]>);
+
+impl Layouts {
+    pub fn new() -> Result<Self, ModuleListError> {
+        let mut sets = Vec::new();
+        sets.try_reserve_exact(SETS).map_err(|_| ModuleListError::OutOfMemory)?;
+        sets.resize(SETS, [Entry::NONE; 2]);
+        Ok(Layouts(sets))
+    }
+
+    /// The number of an address's set: neighbours are far apart.
+    fn set(address: u64) -> usize {
+        (address.wrapping_mul(0x9e37_79b9_7f4a_7c15) >> (64 - SETS.ilog2())) as usize
+    }
+
+    /// The layout of the step from a return address (AVMA), if it is known.
+    #[inline(always)]
+    pub fn find(&self, address: u64, modules: u32) -> Option<&Layout> {
+        let [one, other] = &self.0[Self::set(address)];
+        let entry = if one.is_of(address, modules) { one } else { other };
+        entry.is_of(address, modules).then_some(&entry.layout)
+    }
+
+    /// Notes what a step from a return address (AVMA) has asked for by a rule of the cache. The list 0 of modules is none.
+    pub fn note(&mut self, address: u64, modules: u32, layout: Option<Layout>) {
+        let Some(layout) = layout else { return };
+        if modules == 0 {
+            return;
+        }
+        let layout = self.find(address, modules).and_then(|old| old.with(&layout)).unwrap_or(layout);
+        let [one, other] = &mut self.0[Self::set(address)];
+        if !one.is_of(address, modules) {
+            *other = *one;
+        }
+        *one = Entry { address, modules, layout };
+    }
+}
+
+// a set is a line of the processor's cache
+const _: () = assert!(size_of::<[Entry; 2]>() == 64);
