@@ -1,5 +1,5 @@
 #!/usr/bin/env python3
-"""compare_recording_reading.py PROGRAM COUNT RECORDING..: recordings that framehop-stacks reads in parts, beside the same read whole.
+"""compare_recording_reading.py PROGRAM COUNT RECORDING..: recordings read in parts, beside the same read whole.
 
 A recording of 1 MiB or more that is named is read in parts: what is before and after its records, the records without the bodies of
 samples, and each of these bodies when its sample is unwound. From standard input it is read whole. What is printed, what is said and

@@ -1,5 +1,5 @@
 #!/usr/bin/env python3
-"""judge_core_files.py [--keep DIR] [PROGRAM]: compares the stacks that framehop-stacks has of core files with gdb's.
+"""judge_core_files.py [--keep DIR] [PROGRAM]: stacks of core files, beside gdb's.
 
 Compiles processes of different make, lets each come to a stop, takes its core file (the kernel's where it crashes, else by gdb's
 `gcore`), and asks both for the addresses of the frames of each thread, the innermost first. Prints for each process how many threads

@@ -1,5 +1,7 @@
 #!/usr/bin/env python3
-"""mutate_commands.py PROGRAM COUNT FILE..: runs framehop-walk or framehop-explain on changed copies of lists of commands.
+"""mutate_commands.py PROGRAM COUNT FILE..: changed lists of commands.
+
+PROGRAM is framehop-walk or framehop-explain.
 
 Half of the changes are of bytes, as those of mutate_recordings.py; the others leave JSON: a value becomes another one, a byte of a
 section another byte, a key or an element goes or comes twice. Each run must end with status 0, with status 1 and a refusal, or with

@@ -1,5 +1,5 @@
 #!/usr/bin/env python3
-"""mutate_core_files.py PROGRAM COUNT CORE..: runs framehop-stacks on copies of core files with bytes changed, cut out or repeated.
+"""mutate_core_files.py PROGRAM COUNT CORE..: core files with bytes changed, cut out or repeated, by framehop-stacks.
 
 Each run must end with status 0, or with status 1 and a refusal that names an offset or what the file is not, within a second and one
 more for each megabyte. Half of the changes are in the program headers and the notes. Prints how many ended by which status, what was refused how often, and

@@ -1,5 +1,5 @@
 #!/usr/bin/env python3
-"""mutate_elf_files.py PROGRAM COUNT FILE..: runs framehop-explain --elf on copies of ELF and PE files with bytes changed, cut out or repeated.
+"""mutate_elf_files.py PROGRAM COUNT FILE..: ELF and PE files with bytes changed, cut out or repeated, by framehop-explain --elf.
 
 Each run must end with status 0 or 1 within a second and one more for each megabyte. Half of the changes of an ELF file are in its
 headers, in its notes and in the names of its sections. Prints how many ended by which status, what was refused how often, and the

@@ -1,5 +1,5 @@
 #!/usr/bin/env python3
-"""mutate_minidumps.py PROGRAM COUNT MINIDUMP..: runs framehop-stacks on copies of minidumps with bytes changed, cut out or repeated.
+"""mutate_minidumps.py PROGRAM COUNT MINIDUMP..: minidumps with bytes changed, cut out or repeated, by framehop-stacks.
 
 Each run must end with status 0, or with status 1 and a refusal that names an offset or what the file is not, within a second and one
 more for each megabyte.

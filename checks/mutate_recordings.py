@@ -1,5 +1,5 @@
 #!/usr/bin/env python3
-"""mutate_recordings.py PROGRAM COUNT RECORDING..: runs the program on copies of recordings with bytes changed, cut out or repeated.
+"""mutate_recordings.py PROGRAM COUNT RECORDING..: recordings with bytes changed, cut out or repeated, by the program.
 
 Each run must end with status 0 or 1 within a second for each megabyte. Prints how many ended by which status, what was refused how
 often, and the slowest run; with status 1 where a run ended otherwise. The changes are the same in each run of this script.

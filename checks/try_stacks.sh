@@ -70,6 +70,36 @@ try() {
     try_in "$data" "$@"
 }
 
+# Compares the file that speedscope reads with folded stacks: profiled NAME STACKS ARGUMENT.., where NAME is that of its only profile,
+# or `threads` where there is one for each thread
+profiled() {
+    local name=$1 stacks=$2
+    shift 2
+    "$program" --speedscope "$@" >"$work/out" 2>"$work/err"
+    python3 - "$work/out" "$name" <<'END' | LC_ALL=C sort | cmp - "$stacks" || { echo "$program --speedscope $*: other stacks" >&2; failed=1; }
+import json, sys
+
+file, name = json.load(open(sys.argv[1])), sys.argv[2]
+names = [frame["name"] for frame in file["shared"]["frames"]]
+assert len(set(names)) == len(names)
+for profile in file["profiles"]:
+    assert profile["type"] == "sampled" and profile["unit"] == "none"
+    assert profile["startValue"] == 0 and profile["endValue"] == sum(profile["weights"])
+    assert name == "threads" or file["name"] == profile["name"] == name and len(file["profiles"]) == 1
+    thread = [profile["name"]] if name == "threads" else []
+    for stack, count in zip(profile["samples"], profile["weights"], strict=True):
+        print(";".join(thread + [names[number] for number in stack]), count)
+END
+}
+
+# Compares what is said of the .debug_frame of a file below a root: not_read ROOT WHY
+not_read() {
+    (cd "$data" && "$program" --root "$1" debug_frame.core 2>"$work/err" >"$work/out")
+    echo "/usr/local/bin/debug_frame: $2" | cmp -s - "$work/err" && return
+    echo "$program --root $1: it does not say that $2: $(cat "$work/err")" >&2
+    failed=1
+}
+
 # Compares the boxes of a picture with both recordings: drawn PROGRAM "TITLE [flame]" ARGUMENT..
 drawn() {
     local program=$1 form=$2 words
@@ -113,12 +143,31 @@ reported() {
     failed=1
 }
 
+# Compares the JSON of a recording with its blocks and its folded stacks, its status, and what is said: recorded FOLDER ARGUMENT..
+recorded() {
+    local folder=$1 form ended
+    shift
+    for form in blocks folded; do
+        (
+            cd "$folder" || exit
+            [ "$form" = folded ] || set -- --frames "$@"
+            "$program" "$@" >"$work/wanted" 2>"$work/wanted.err"
+            ended=$?
+            "$program" --json "$@" >"$work/json" 2>"$work/err"
+            [ "$?" = "$ended" ] && cmp -s "$work/err" "$work/wanted.err" &&
+                head -n 1 "$work/json" | grep -q '^{"kind":"recording",' && python3 "$checks/stacks/blocks_of_json.py" "$form" <"$work/json" | cmp -s - "$work/wanted"
+        ) && continue
+        echo "$program --json $*: another status, other errors or other $form than without it: $(cat "$work/err")" >&2
+        failed=1
+    done
+}
+
 # The recordings that no machine made, and what is printed of the large ones.
 made=$work/made
 mkdir "$made" || exit 1
 dumps=$work/dumps
 mkdir "$dumps" && python3 "$checks/stacks/made_up_dumps.py" "$data" "$dumps" || exit 1
-for case in cut short_comm short_fork lost files lines long build_ids chains kernel full events jit threads; do
+for case in cut short_comm short_fork lost files lines long build_ids chains kernel full vdso events jit threads deep forked; do
     python3 "$checks/stacks/made_up_recording.py" "$made/$case.data" "$case" || exit 1
 done
 python3 - "$work" <<'END' || exit 1
@@ -126,9 +175,16 @@ import sys
 from pathlib import Path
 
 work = Path(sys.argv[1])
-counted = "{0} samples, 0 records lost by the kernel\n{1} samples with frames that no unwind data tells\nhow the stacks ended:\nframe-pointer-0 {0}\n"
+
+
+def counted(count, unsure):
+    samples = [f"{n} sample" + "s" * (n != 1) for n in (count, unsure)]
+    told = f"{samples[0]}, 0 records lost by the kernel\n{samples[1]} with frames that no unwind data tells\n"
+    return told + f"how the stacks ended:\nframe-pointer-0 {count}\n"
+
+
 work.joinpath("files.folded").write_text("app;[frame-pointer-0];1099+0x8 1\n")
-work.joinpath("files.errors").write_text("".join(f"/srv/{at:04}: can't be read\n" for at in range(1100)) + counted.format(1, 0))
+work.joinpath("files.errors").write_text("".join(f"/srv/{at:04}: can't be read\n" for at in range(1100)) + counted(1, 0))
 lines = sorted(f"app;[frame-pointer-0];app+0x{0x10000 + 4 * at:x} 1\n" for at in range(70000))
 work.joinpath("lines.folded").write_text("".join(lines))
 name = "x" * 60000
@@ -140,7 +196,7 @@ work.joinpath("jit.folded").write_text(
     "other;[frame-pointer-0];[anon:jit]+0x8 1\n" + "".join(f"{within}{name} {count}\n" for name, count in named)
 )
 app, left_out = "/srv/app: can't be read\n", "perf-300.map: lines that are left out, since they are not START SIZE NAME: 2\n"
-work.joinpath("jit.errors").write_text(app + left_out + counted.format(7, 6))
+work.joinpath("jit.errors").write_text(app + left_out + counted(7, 6))
 # without the map each is named by its place
 places = [("anon+0x10", 2), ("anon+0x1800", 1), ("anon+0x80", 1), ("anon+0xdf", 1), ("anon+0xe0", 1)]
 work.joinpath("no-jit.folded").write_text(
@@ -148,10 +204,12 @@ work.joinpath("no-jit.folded").write_text(
     + "".join(f"vm;[frame-pointer-0];anon+0x103;{place} {count}\n" for place, count in places)
 )
 work.joinpath("long.folded").write_text(f"app;[frame-pointer-0];{cut}+0x1203;{cut}+0x1124 1\n")
-work.joinpath("long.errors").write_text(f"/srv/{name[:2043]}...: can't be read\n" + counted.format(1, 1))
+unopened = f"framehop-stacks: ./srv/{name[:2042]}...: File name too long (os error 36)\n"
+work.joinpath("long.errors").write_text(unopened + f"/srv/{name[:2043]}...: can't be read\n" + counted(1, 1))
 work.joinpath("build_ids.folded").write_text("app;[frame-pointer-0];app+0x1203;app+0x1124 1\n")
-work.joinpath("build_ids.errors").write_text("/srv/app: can't be read\n" + counted.format(1, 1))
-work.joinpath("lines.errors").write_text("/srv/app: can't be read\n" + counted.format(70000, 0))
+work.joinpath("build_ids.errors").write_text("/srv/app: can't be read\n" + counted(1, 1))
+work.joinpath("lines.errors").write_text("/srv/app: can't be read\n" + counted(70000, 0))
+work.joinpath("deep.folded").write_text("app;[limit];" + "app+0x1203;" * 511 + "app+0x1124 1\n")
 END
 python3 "$checks/stacks/summary.py" "$checks/stacks/tiny.frames" >"$work/tiny.summary" || exit 1
 cat "$checks/stacks/made-up.summary" "$work/tiny.summary" >"$work/both.summary"
@@ -200,20 +258,28 @@ printf '%s\n' "$whole 2" >"$work/kernel.folded"
 printf '%s\n' "$whole 1" "$whole;0xffff7fffffffffff_[k];two_[k];two_[k] 1" >"$work/kernel.named"
 printf '%s\n' "$whole 1" "$whole;0xffff7fffffffffff_[k];0xffff800000020001_[k];0xffff800000020000_[k] 1" >"$work/kernel.unnamed"
 printf '%s\n' 'app 100/100 10:' 'ffff800000020000 two+0x0 ([kernel])' 'ffff800000020001 two+0x1 ([kernel])' 'ffff7fffffffffff [unknown] ([kernel])' \
-    '10124 [unknown] (/srv/app+0x1124)' '10204 [unknown] (/srv/app+0x1203) [frame-pointer]' '[frame-pointer-0]' '' >"$work/kernel.block"
-printf '%s\n' 'app 100/100 20:' '10124 [unknown] (/srv/app+0x1124)' '10204 [unknown] (/srv/app+0x1203) [frame-pointer]' '10300 [unknown] (/srv/app+0x12ff) [frame-pointer]' \
+    '10124 [unknown] (/srv/app+0x1124)' '10204 [unknown] (/srv/app+0x1204) [frame-pointer]' '[frame-pointer-0]' '' >"$work/kernel.block"
+printf '%s\n' 'app 100/100 20:' '10124 [unknown] (/srv/app+0x1124)' '10204 [unknown] (/srv/app+0x1204) [frame-pointer]' '10300 [unknown] (/srv/app+0x1300) [frame-pointer]' \
     '[callchain]' '' >"$work/chains.block"
-printf '%s\n' "app;[could-not-read-stack];app+0x12ff;app+0x1203;app+0x1124 1" "$whole 1" >"$work/full.folded"
+printf '%s\n' 'app;[cannot-access-memory];app+0x1124 2' "app;[cannot-access-memory];app+0x12ff;app+0x1203;app+0x1124 1" "$whole 1" >"$work/full.folded"
+# a larger copy would have one word of three: one lies below the stack pointer, and one further above it than a copy can be long
+printf '%s\n' 'app 100/100 20:' '10124 [unknown] (/srv/app+0x1124)' '10204 [unknown] (/srv/app+0x1204) [frame-pointer]' \
+    '10300 [unknown] (/srv/app+0x1300) [frame-pointer]' '[cannot-access-memory 70000028]' '' 'app 100/100 30:' '10124 [unknown] (/srv/app+0x1124)' \
+    '[cannot-access-memory 6ffffff8]' '' 'app 100/100 40:' '10124 [unknown] (/srv/app+0x1124)' '[cannot-access-memory 70010000]' '' >"$work/full.blocks"
+printf '%s\n' 'app;[frame-pointer-0];app+0x1203;[vdso]+0x24 1' "$whole 1" >"$work/vdso.folded"
 printf '%s\n' "/srv/app: can't be read" '2 samples, 0 records lost by the kernel' '2 samples with frames that no unwind data tells' 'how the stacks ended:' \
-    'could-not-read-stack 1' 'frame-pointer-0 1' '1 samples end where the copy of their stack does: perf record --call-graph dwarf,65528 copies more' >"$work/full.errors"
+    'frame-pointer-0 2' '1 sample with a frame in [vdso], of which no file was found: --vdso FILE names it' >"$work/vdso.errors"
+printf '%s\n' "/srv/app: can't be read" '4 samples, 0 records lost by the kernel' '2 samples with frames that no unwind data tells' 'how the stacks ended:' \
+    'cannot-access-memory 3' 'frame-pointer-0 1' '1 sample cut at the end of the copied stack: perf record --call-graph dwarf,65528 copies more' >"$work/full.errors"
 printf '%s\n' "$whole 1" >"$work/first"
 printf '%s\n' 'app;[frame-pointer-0];app+0x1203;app+0x1128 1' >"$work/second"
 cat "$work/first" "$work/second" >"$work/both"
 printf '%s\n' 'app;[frame-pointer-0];app+0x1203;app+0x1128 2' >"$work/later"
 printf '%s\n' "$whole 1" 'app;[frame-pointer-0];app+0x1203;app+0x1128 2' >"$work/all"
-printf '%s\n' 'app-200/200;[frame-pointer-0];app+0x1203;app+0x1124 1' 'other-200/200;[no-caller];[unknown] 1' >"$work/threads"
-printf '%s\n' 'other;[no-caller];[unknown] 1' >"$work/other.folded"
+printf '%s\n' 'app-200/200;[frame-pointer-0];app+0x1203;app+0x1124 1' 'other-200/200;[frame-pointer-0];other+0x203;[unknown] 1' >"$work/threads"
+printf '%s\n' 'other;[frame-pointer-0];other+0x203;[unknown] 1' >"$work/other.folded"
 printf '\037\213\010' >"$work/gzip.data"
+mkdir -p "$work/mixed" && printf 'PERF\0' >"$work/mixed/a.data" && cp "$made/events.data" "$work/mixed/b.data" || exit 1
 mkdir -p "$work/by-threads" && : >"$work/by-threads/data" && : >"$work/by-threads/data.0"
 
 for program in "$@"; do
@@ -245,16 +311,24 @@ for program in "$@"; do
     try 0 "$checks/stacks/crash.fallback" any --root srv --explain crash.core
     try 0 "$checks/stacks/debug_frame.stacks" any --root . debug_frame.core
     try 0 "$checks/stacks/debug_frame.explained" any --root . --explain debug_frame.core
-    # the same file with its .debug_frame compressed, and again as it was
-    compressed=$work/compressed/usr/local/bin/debug_frame restored=$work/restored/usr/local/bin/debug_frame
+    # its .debug_frame is compressed by zlib: the same as it was before, and then by zstandard, in GNU's older form, and with another
+    # checksum, which are not read
     if command -v objcopy >"$work/out"; then
-        mkdir -p "${compressed%/*}" "${restored%/*}"
-        objcopy --compress-debug-sections=zlib "$data/usr/local/bin/debug_frame" "$compressed" || failed=1
-        objcopy --decompress-debug-sections "$compressed" "$restored" || failed=1
-        (cd "$data" && "$program" --root "$work/compressed" debug_frame.core) 2>"$work/err" >"$work/out"
-        echo "/usr/local/bin/debug_frame: its .debug_frame is compressed; objcopy --decompress-debug-sections makes a file of which it can be read" |
-            cmp -s - "$work/err" || { echo "$program: it says of a compressed .debug_frame: $(cat "$work/err")" >&2; failed=1; }
-        try 0 "$checks/stacks/debug_frame.stacks" "$work/nothing" --root "$work/restored" debug_frame.core
+        debug_frame=usr/local/bin/debug_frame
+        for form in none zlib-gnu zstd damaged; do
+            mkdir -p "$work/$form/usr/local/bin"
+            [ "$form" = damaged ] || objcopy --compress-debug-sections="$form" "$data/$debug_frame" "$work/$form/$debug_frame" || failed=1
+        done
+        python3 "$checks/stacks/damage_section.py" "$data/$debug_frame" .debug_frame "$work/damaged/$debug_frame" || failed=1
+        try 0 "$checks/stacks/debug_frame.stacks" "$work/nothing" --root "$work/none" debug_frame.core
+        undone="; objcopy --decompress-debug-sections makes a file of which it can be read"
+        not_read "$work/zstd" "its .debug_frame is compressed by zstandard$undone"
+        not_read "$work/zlib-gnu" "its .debug_frame is compressed in an older form$undone"
+        not_read "$work/damaged" "its .debug_frame can't be read: WrongChecksum"
+        for form in zstd zlib-gnu; do
+            objcopy --decompress-debug-sections "$work/$form/$debug_frame" || failed=1
+            try 0 "$checks/stacks/debug_frame.stacks" "$work/nothing" --root "$work/$form" debug_frame.core
+        done
     fi
     try 1 "$work/nothing" any "$work/short.core"
     try 0 "$checks/stacks/minidump.stacks" any --root . crash.dmp
@@ -304,12 +378,24 @@ import json, sys
 
 dump = json.load(sys.stdin)
 functions = [frame["function"] for frame in dump["threads"][0]["frames"]]
-found = [dump["modules"][0]["build_id"], *(function["offset"] for function in functions if function["name"] is None)]
-assert found == ["cb47e4cd805ea4a5d817ed2970d18a00481898ad", "0x4e", "0xa"], found' ||
+module = dump["modules"][0]
+found = [module["build_id"], *((function["offset"], function["start"]) for function in functions if function["name"] is None)]
+assert found == ["cb47e4cd805ea4a5d817ed2970d18a00481898ad", ("0x4e", "0x401000"), ("0xb", "0x401055")], found
+assert module["path"].endswith("/data/usr/local/bin/crash") and module["debug_path"] is None, module' ||
         { echo "$program: another build id or another start in the JSON of crash.core" >&2; failed=1; }
-    try 2 "$work/nothing" "$(said "tiny.data: only core files and minidumps are printed as JSON")" --root . --json tiny.data
+    # of recordings: of each stack and of each sample, also where a record is refused, and of call chains
+    recorded "$data" --root . tiny.data
+    recorded "$data" --root . made-up.data
+    recorded "$data" --root . --limit 3 --comm tiny tiny.data
+    for recording in cut short_comm short_fork lost build_ids chains full vdso events jit; do
+        recorded "$made" --root . "$recording.data"
+    done
+    (cd "$data" && "$program" --by-thread --pid 200 --json made-up.data 2>"$work/err" | python3 "$checks/stacks/blocks_of_json.py" folded | cmp -s - "$work/threads") ||
+        { echo "$program: other stacks of threads in JSON" >&2; failed=1; }
+    try 2 "$work/nothing" "$(said "old.folded: folded stacks have no addresses, and no JSON")" --json old.folded
+    try 2 "$work/nothing" "$(said "JSON has all frames of the user's side, with how each was found, and no notes")" --json --sure tiny.data
     try 2 "$work/nothing" "$(said "only folded stacks are drawn and compared, and no JSON")" --json --svg crash.core
-    try 2 "$work/nothing" "$(said "JSON has all frames, and no notes")" --json --explain crash.core
+    try 2 "$work/nothing" "$(said "JSON has all frames of the user's side, with how each was found, and no notes")" --json --explain crash.core
     try 2 "$work/nothing" any
     try 2 "$work/nothing" "$(said "the limit is no number")" --limit many tiny.data
     try 0 "$checks/stacks/tiny.explained" "$work/tiny.summary" --root . --explain tiny.data
@@ -373,6 +459,12 @@ assert found == ["cb47e4cd805ea4a5d817ed2970d18a00481898ad", "0x4e", "0xa"], fou
     try_in "$made" 0 "$work/kernel.unnamed" any --kernel kernel.data
     try_in "$made" 0 "$work/kernel.block" any --kernel --kallsyms "$work/kallsyms" --frames --time ,0.00000001 kernel.data
     try_in "$made" 0 "$work/full.folded" "$work/full.errors" full.data
+    try_in "$made" 0 "$work/full.blocks" any --frames --time 0.00000002, full.data
+    try_in "$made" 0 "$work/vdso.folded" "$work/vdso.errors" vdso.data
+    # 512 frames at most; no file of a process without samples; the status of a folder is the greatest of its files
+    try_in "$made" 0 "$work/deep.folded" any deep.data
+    try_in "$made" 0 "$work/first" "$work/build_ids.errors" --root . forked.data
+    try_in "$work" 1 "$work/all" any mixed
     # the samples of an event, of a time, of a thread
     try_in "$made" 0 "$work/all" any events.data
     try_in "$made" 0 "$work/first" any --event cycles events.data
@@ -382,6 +474,9 @@ assert found == ["cb47e4cd805ea4a5d817ed2970d18a00481898ad", "0x4e", "0xa"], fou
     try_in "$made" 0 "$work/no-jit.folded" any --perf-map "$work/other" jit.data
     try_in "$made" 0 "$work/no-jit.folded" any jit.data
     try_in "$made" 1 "$work/nothing" "$(said "$work/no: no folder")" --perf-map "$work/no" jit.data
+    mkdir -p "$work/large-maps" && truncate -s 300M "$work/large-maps/perf-300.map"
+    try_in "$made" 0 "$work/no-jit.folded" any --perf-map "$work/large-maps" jit.data
+    grep -q 'perf-300.map: no regular file of at most 256 MiB' "$work/err" || { echo "$program: nothing is said of a map of 300 MB" >&2; failed=1; }
     try_in "$made" 0 "$work/all" any --event cycles --event task-clock events.data
     try_in "$made" 1 "$work/nothing" "$(said "events.data: no event 2; the events are 0 cycles, 1 task-clock")" --event 2 events.data
     try_in "$made" 0 "$work/first" any --time ,0.00000001 events.data
@@ -404,18 +499,19 @@ assert found == ["cb47e4cd805ea4a5d817ed2970d18a00481898ad", "0x4e", "0xa"], fou
     try 1 "$work/nothing" "$(said "$work/hidden: it has no function with an address; /proc/kallsyms tells them to root")" --kernel --kallsyms "$work/hidden" made-up.data
     try 1 "$work/nothing" "$(said "$work/gzip.data: a compressed file; gzip -d makes one that can be read")" "$work/gzip.data"
     try 1 "$work/nothing" "$(said "$work/by-threads: a recording of perf record --threads, which is not read; without --threads perf writes one file")" "$work/by-threads"
-    # the file of speedscope has the folded stacks
-    "$program" --speedscope --title 'a "b"' "$checks/stacks/both.folded" >"$work/out"
-    python3 - "$work/out" <<'END' | LC_ALL=C sort | cmp - "$checks/stacks/both.folded" || { echo "$program --speedscope: other stacks" >&2; failed=1; }
-import json, sys
-
-file = json.load(open(sys.argv[1]))
-names, (profile,) = [frame["name"] for frame in file["shared"]["frames"]], file["profiles"]
-assert len(set(names)) == len(names) and profile["type"] == "sampled" and profile["unit"] == "none"
-assert profile["startValue"] == 0 and profile["endValue"] == sum(profile["weights"]) and file["name"] == profile["name"] == 'a "b"'
-for stack, count in zip(profile["samples"], profile["weights"], strict=True):
-    print(";".join(names[number] for number in stack), count)
-END
+    # the file of speedscope has the folded stacks, of each thread a profile where it is asked for
+    profiled 'a "b"' "$checks/stacks/both.folded" --title 'a "b"' "$checks/stacks/both.folded"
+    "$program" --by-thread "$data/made-up.data" >"$work/each-thread" 2>"$work/err"
+    profiled threads "$work/each-thread" --by-thread "$data/made-up.data"
+    try 1 "$work/nothing" any --speedscope --pid 7 made-up.data
+    # a reader that ends early, names that would forge a line or reach a terminal, and what is no recording
+    { sleep 0.2; "$program" "$data/made-up.data" 2>"$work/err"; echo $? >"$work/status"; } | true
+    [ "$(cat "$work/status")" = 0 ] || { echo "$program: status $(cat "$work/status") where its reader has ended: $(cat "$work/err")" >&2; failed=1; }
+    try 1 "$work/nothing" "$(said "$work/a\\x0ab: No such file or directory (os error 2)")" "$work/a"$'\n'b
+    "$program" --no$'\033'such x 2>"$work/err" && failed=1
+    ! grep -q $'\033' "$work/err" || { echo "$program: a command for a terminal in what is said of an option" >&2; failed=1; }
+    printf 'PERF\0' >"$work/damaged.data"
+    try_in "$work" 1 "$work/nothing" any --json damaged.data
 done
 [ "$failed" = 0 ] || exit 1
 echo "the runs of framehop-stacks with arguments are as they should be"

@@ -16,11 +16,14 @@ from pathlib import Path
 CHECKS = Path(__file__).resolve().parent
 DATA = CHECKS.parent / "crates/framehop_stacks_cli/data"
 NAMES = CHECKS.parent / "tools/names.py"
+DASK = CHECKS.parent / "tools/stacks_dask.py"
 CHECKED = CHECKS.parent / "crates/framehop_check_cli/data/five_functions.so"
 # ESC, BEL, CR, BS, DEL, a byte of C1 that is no UTF-8, the same as UTF-8, ESC
 HOSTILE = b"\x1b[31m\x07\r\x08\x7f\x9b2J\xc2\x9b31m\x1b]0;t\x07"
 # the same as valid UTF-8
 HOSTILE_TEXT = HOSTILE.replace(b"\x9b2J", b"2J").decode()
+# characters that are not seen: those that change the direction of others, have no width, or end lines and paragraphs
+HIDDEN = "\u202e\u200b\u2028\u2029"
 failed = []
 
 
@@ -38,21 +41,21 @@ def with_hostile(file, *names):
     return data
 
 
-def obeyed(text):
-    """What of a text a terminal might obey."""
+def obeyed(text, hidden):
+    """What of a text a terminal might obey, or is one of these characters that are not seen."""
     try:
         characters = text.decode()
     except UnicodeDecodeError as error:
         return repr(text[max(0, error.start - 10) : error.start + 10])
-    bad = [at for at, c in enumerate(characters) if c != "\n" and (ord(c) < 32 or 0x7F <= ord(c) < 0xA0)]
+    bad = [at for at, c in enumerate(characters) if c != "\n" and (ord(c) < 32 or 0x7F <= ord(c) < 0xA0 or c in hidden)]
     return repr(characters[max(0, bad[0] - 10) : bad[0] + 10]) if bad else None
 
 
-def try_program(what, arguments, has=b"\\x", given=None, env=None):
+def try_program(what, arguments, has=b"\\x", given=None, env=None, hidden=""):
     """Runs a program, whose output and messages together must have these bytes."""
     done = subprocess.run(arguments, input=given, capture_output=True, timeout=60, env=env)
     for stream, text in (("output", done.stdout), ("error output", done.stderr)):
-        found = obeyed(text)
+        found = obeyed(text, hidden)
         if found:
             failed.append(f"{what}: the {stream} has {found}")
     if has not in done.stdout + done.stderr:
@@ -70,9 +73,14 @@ def try_stacks(stacks, work):
     recording = file("names.data", with_hostile(DATA / "tiny.data", b"tiny"))
     file("root/srv/tiny", with_hostile(DATA / "srv/tiny", b"even", b"spin"))
     for form in ([], ["--frames"], ["--explain"], ["--svg"], ["--speedscope"], ["--comm", "none"]):
-        try_program(f"a recording's names {form}", [stacks, *form, "--root", work / "nowhere", recording])
+        # where no sample is counted, no file is read and told
         mark = b"" if "none" in form else b"\\x"
+        try_program(f"a recording's names {form}", [stacks, *form, "--root", work / "nowhere", recording], mark)
         try_program(f"functions' names {form}", [stacks, *form, "--root", work / "root", str(DATA / "tiny.data")], mark)
+    # a name of UTF-8 without control characters, but with one that turns the order of a line
+    hidden = file("hidden.data", (DATA / "tiny.data").read_bytes().replace(b"tiny", "\u202ex".encode()))
+    for form in ([], ["--frames"], ["--explain"], ["--svg"], ["--speedscope"]):
+        try_program(f"unseen characters {form}", [stacks, *form, "--root", work / "nowhere", hidden], hidden=HIDDEN)
     events = work / "events.data"
     subprocess.run([sys.executable, CHECKS / "stacks/made_up_recording.py", events, "events"], check=True)
     jit = work / "jit.data"
@@ -95,10 +103,15 @@ def try_stacks(stacks, work):
     for form in ([], ["--svg"], ["--speedscope"]):
         try_program(f"folded stacks {form}", [stacks, *form, path])
         try_program(f"folded stacks from standard input {form}", [stacks, *form, "-"], given=b"a;b 1\n" * 1000 + folded)
-    # a name of Rust that c++filt writes with a control character of C1
-    mangled = b"app;_RNvC1au2_1a 3\n"
-    for form in ([], ["--svg"], ["--speedscope"]):
-        try_program(f"a mangled name {form}", [sys.executable, NAMES, stacks, "--demangle", *form, "-"], given=mangled)
+    # names of Rust that c++filt writes with a control character of C1, and with characters that are not seen
+    for name in (b"_RNvC1au2_1a", b"_RNvC1au3zvg", b"_RNvC1au3zug", b"_RNvC1au3tvg", b"_RNvC1au3uvg"):
+        for form in ([], ["--svg"], ["--speedscope"]):
+            asked = [sys.executable, NAMES, stacks, "--demangle", *form, "-"]
+            try_program(f"a mangled name {name} {form}", asked, given=b"app;%s 3\n" % name, hidden=HIDDEN)
+    # a folder that has no recordings, and what is said of it by the script for many
+    empty = work / "\u202ea\u200bb\u2028\x1b\u0085"
+    empty.mkdir()
+    try_program("a folder without recordings", [sys.executable, DASK, "--program", stacks, empty], hidden=HIDDEN)
     named = work / "folder"
     named.mkdir()
     named.joinpath(HOSTILE_TEXT.replace("\0", "") + ".data").write_bytes(b"PERFILE2")

@@ -20,10 +20,10 @@ def note(owner, kind, descriptor):
     return struct.pack("<III", len(name), len(descriptor), kind) + pad(name) + pad(descriptor)
 
 
-def thread_note(tid, stack):
+def thread_note(tid, stack, place=0x401000):
     """struct elf_prstatus: the number of the thread at 32, the registers of the kernel from 112 on."""
     registers = [0] * 27
-    registers[4], registers[16], registers[19] = stack, 0x401000, stack
+    registers[4], registers[16], registers[19] = stack, place, stack
     return note(b"CORE", NT_PRSTATUS, struct.pack("<32xI76x27Q8x", tid, *registers))
 
 
@@ -77,6 +77,15 @@ def threads_backwards(count):
     """The same, the segments from the last address to the first."""
     stacks = [STACKS + PAGE * at for at in reversed(range(count))]
     return {"dump": core([thread_note(at + 1, stack) for at, stack in enumerate(stacks)], [(stack, stack_at(stack)) for stack in stacks])}
+
+
+def segments_in_turn(count):
+    """As many threads on one stack, whose frame pointers lead through 16 segments, from each to the next."""
+    places = [STACKS + 0x100000 * at for at in range(16)]
+    stacks = [struct.pack("<QQ6Q", after, 0x402000, *range(6)) for after in places[1:]] + [stack_at(0)]
+    notes = b"".join(thread_note(at + 1, places[0]) for at in range(count))
+    loads = [(PT_LOAD, 6, place, stack) for place, stack in zip(places, stacks)]
+    return {"dump": elf(4, [(PT_NOTE, 0, 0, notes), (PT_LOAD, 5, 0x400000, bytes(0x4000)), *loads])}
 
 
 def overlapping(count):
@@ -209,6 +218,56 @@ def notes_of_one_place(count):
     return {"dump": core(listed, [(STACKS, struct.pack("<QQ6Q", 0, 0x10000010, *range(6)))]), "root/lib/code.so": code}
 
 
+def uleb128(number):
+    encoded = b""
+    while number >= 0x80:
+        encoded += bytes([0x80 | number & 0x7F])
+        number >>= 7
+    return encoded + bytes([number])
+
+
+def walked_by_row(instructions):
+    """A mapped file of one function with these call frame instructions, by which the CFA is rsp + 8, and a stack of 600 return
+    addresses in it."""
+    pad = lambda entry: entry + bytes(-len(entry) % 8)
+    frames_at = PAGE
+    cie = pad(bytes(4) + bytes([1, 0, 1, 0x78, 16, 0x0C, 7, 8, 0x90, 1]))
+    section = struct.pack("<I", len(cie)) + cie
+    fde = pad(struct.pack("<IQQ", len(section) + 4, 0x10, 0xF0) + instructions)
+    section += struct.pack("<I", len(fde)) + fde + bytes(4)
+    names = b"\0.eh_frame\0.shstrtab\0"
+    loaded = bytes(64 + 56).ljust(frames_at, b"\xcc") + section
+    head = b"\x7fELF\2\1\1" + bytes(9) + struct.pack("<HHIQQQIHHHHHH", 3, 62, 1, 0, 64, len(loaded) + len(names), 0, 64, 56, 1, 64, 3, 2)
+    code = struct.pack("<IIQQQQQQ", PT_LOAD, 5, 0, 0, 0, len(loaded), len(loaded), PAGE)
+    frames = struct.pack("<IIQQQQIIQQ", 1, 1, 2, frames_at, frames_at, len(section), 0, 0, 8, 0)
+    texts = struct.pack("<IIQQQQIIQQ", 11, 3, 0, 0, len(loaded), len(names), 0, 0, 1, 0)
+    file = head + code + loaded[120:] + names + bytes(64) + frames + texts
+    base = 0x10000000
+    size = len(loaded) + -len(loaded) % PAGE
+    listed = [thread_note(1, STACKS, base + 0x20), mapped([(base, base + size, b"/lib/code.so")])]
+    stack = struct.pack("<Q", base + 0x20) * 600
+    segments = [(PT_NOTE, 0, 0, b"".join(listed)), (PT_LOAD, 5, base, file[:PAGE]), (PT_LOAD, 6, STACKS, stack)]
+    return {"dump": elf(4, segments), "root/lib/code.so": file}
+
+
+def many_rules(count):
+    """A row of as many rules."""
+    return walked_by_row(b"".join(b"\x08" + uleb128(100 + at) for at in range(count)))
+
+
+def long_fde(count):
+    """A row by as many instructions, and 16 more for each: the last of 150 rules is set again and again."""
+    rules = b"".join(b"\x08" + uleb128(100 + at) for at in range(150))
+    return walked_by_row(rules + (b"\x08" + uleb128(249)) * 17 * count)
+
+
+def long_expression(count):
+    """Rules by expressions of as many operations, which jump back for ever from the last."""
+    jump = b"\x2f" + struct.pack("<h", -3)
+    expression = uleb128(count + 3) + b"\x96" * count + jump
+    return walked_by_row(b"".join(b"\x16" + bytes([register]) + expression for register in (0, 1, 2, 3, 4, 5, 8, 9, 10, 11)))
+
+
 def minidump(streams, tail):
     """Streams by their types, each a function from its offset to its bytes, and bytes after them, whose place is given."""
     directory, at, blocks = [], 32 + 12 * len(streams), []
@@ -295,8 +354,8 @@ def write(folder, files):
 
 
 KINDS = {function.__name__.replace("_", "-"): function for function in (
-    threads, threads_backwards, overlapping, masks, paths, code_in_memory, overlapping_files, mappings_of_one_file, shared_images, one_image, shared_headers,
-    names_of_one_file, shared_code, section_names, notes_of_one_place, minidump_threads, minidump_modules, minidump_shared_headers, minidump_maps, minidump_streams)}
+    threads, threads_backwards, segments_in_turn, overlapping, masks, paths, code_in_memory, overlapping_files, mappings_of_one_file, shared_images, one_image, shared_headers,
+    names_of_one_file, shared_code, section_names, notes_of_one_place, many_rules, long_fde, long_expression, minidump_threads, minidump_modules, minidump_shared_headers, minidump_maps, minidump_streams)}
 
 if __name__ == "__main__":
     if len(sys.argv) != 4:

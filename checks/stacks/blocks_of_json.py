@@ -1,30 +1,63 @@
 #!/usr/bin/env python3
-"""Prints the blocks of a dump's threads by its JSON: blocks_of_json.py <JSON. They are those that framehop-stacks prints without --json."""
+"""blocks_of_json.py [folded] <JSON: prints the blocks of a dump's threads, or of a recording's samples, by its JSON, or the folded stacks of
+the latter. They are those that framehop-stacks prints without --json."""
 import json
 import sys
+from collections import Counter
+from pathlib import Path
+
+sys.dont_write_bytecode = True
+sys.path.insert(0, str(Path(__file__).resolve().parents[2] / "tools"))
+from blocks import label_of, line_of
 
 
-def line_of(frame):
-    """A frame's line: what is looked up of a caller is the byte before its address, and the block has the offset of that, too."""
-    place, function = frame["module"], frame["function"]
-    if place is None:
-        where = "[unknown] ([unknown])"
-    elif function is None or function["name"] is None:
-        where = f"[unknown] ({place['file']}+{place['offset']})"
-    else:
-        where = f"{function['name']}+{function['offset']} ({place['file']})"
-    trampoline = "<signal handler called> " if frame["signal_trampoline"] else ""
-    found = f" [{frame['found_by']}]" if frame["found_by"] else ""
-    return f"#{frame['frame']} {int(frame['address'], 16):x} {trampoline}{where}{found}"
+def print_block(head, stack, numbered):
+    end = f" {int(stack['end_address'], 16):x}" if stack["end_address"] is not None else ""
+    print(f"{head}:", *(line_of(frame, numbered) for frame in stack["frames"]), f"[{stack['end']}{end}]", "", sep="\n")
 
 
-for line in sys.stdin:
-    dump = json.loads(line)
+def print_dump(dump):
     program = dump["program"] or "[unknown]"
     for thread in dump["threads"]:
         numbers = f"{dump['pid']}/{thread['tid']}" if dump["pid"] is not None else str(thread["tid"])
         name = f' "{thread["name"]}"' if thread["name"] is not None else ""
         crashed = f" crashed by {dump['crash']['reason']}" if thread["crashed"] else ""
-        end = f" {int(thread['end_address'], 16):x}" if thread["end_address"] is not None else ""
         assert thread["crashed"] == (dump["crash"] is not None and dump["crash"]["tid"] == thread["tid"])
-        print(f"{program} {numbers}{name}{crashed}:", *map(line_of, thread["frames"]), f"[{thread['end']}{end}]", "", sep="\n")
+        print_block(f"{program} {numbers}{name}{crashed}", thread, True)
+
+
+def print_sample(sample):
+    assert sample["count"] == 1
+    numbers = f" {sample['pid']}/{sample['tid']}" if sample["pid"] is not None else ""
+    time = f" {sample['time']}" if sample["time"] is not None else ""
+    print_block(f"{sample['name']}{numbers}{time}", sample, False)
+
+
+def label(frame):
+    if frame["signal_trampoline"]:
+        return "<signal handler called>"
+    return frame["function"] and frame["function"]["name"] or label_of(frame)
+
+
+def folded(stack):
+    """The folded stack of a stack without its count: a chain has a mark, too, and so has a walk that did not end at a root."""
+    thread = f"-{stack['pid']}/{stack['tid']}" if stack["pid"] is not None else ""
+    marks = [f"[{stack['end']}]"] if stack["end"] != "root" else []
+    return ";".join([stack["name"] + thread, *marks, *map(label, reversed(stack["frames"]))])
+
+
+def main():
+    counts = Counter()
+    for line in sys.stdin:
+        value = json.loads(line)
+        if "threads" in value:
+            print_dump(value)
+        elif sys.argv[1:] == ["folded"] and "frames" in value:
+            counts[folded(value)] += value["count"]
+        elif "frames" in value:
+            print_sample(value)
+    for stack, count in sorted((stack.encode(), count) for stack, count in counts.items()):
+        print(f"{stack.decode()} {count}")
+
+
+main()

@@ -11,31 +11,54 @@ import re
 import sys
 import xml.etree.ElementTree
 
-arguments = sys.argv[1:]
-is_flame = arguments[-1] == "flame"
-folded, wanted_title = (arguments[: len(arguments) - is_flame] + ["Flame Graph"])[:2]
-counts = collections.Counter()
-for line in open(folded, encoding="utf-8"):
-    stack, _, count = line.rstrip("\n").rpartition(" ")
-    frames = stack.split(";")
-    for length in range(len(frames) + 1):
-        counts[tuple(frames[:length])] += int(count)
-total = counts[()]
-rows = max(map(len, counts))
-wanted = collections.Counter()
-for frames, count in counts.items():
-    row = rows - len(frames) if is_flame else len(frames)
-    wanted[(frames[-1] if frames else "all", count, row)] += 1
+SPACE = "{http://www.w3.org/2000/svg}"
 
-drawn, failed = collections.Counter(), 0
-space = "{http://www.w3.org/2000/svg}"
-svg = xml.etree.ElementTree.parse(sys.stdin).getroot()
-failed |= svg[0].tag != space + "title" or svg[0].text != wanted_title
-for group in svg.iter(space + "g"):
-    title = re.fullmatch(r"(.*) \((1 sample|\d+ samples), ([0-9.]+)%\)", group.find(space + "title").text, re.S)
-    name, count, part = title[1], int(title[2].split()[0]), float(title[3])
-    rectangle = group.find(space + "rect")
-    drawn[(name, count, (int(rectangle.get("y")) - 56) / 16)] += 1
-    failed |= abs(float(rectangle.get("width")) - 1200 * count / total) > 0.02 or abs(part - 100 * count / total) > 0.005001
-    failed |= (count == 1) != (title[2] == "1 sample")
-sys.exit(1 if failed or drawn != wanted else 0)
+
+def counted(lines):
+    """How often each list of frames begins a stack of folded stacks."""
+    counts = collections.Counter()
+    for line in lines:
+        stack, _, count = line.rstrip("\n").rpartition(" ")
+        frames = stack.split(";")
+        for length in range(len(frames) + 1):
+            counts[tuple(frames[:length])] += int(count)
+    return counts
+
+
+def boxes_of(counts, is_flame):
+    """The boxes that a picture must have: the name, count and row of each."""
+    rows = max(map(len, counts))
+    wanted = collections.Counter()
+    for frames, count in counts.items():
+        row = rows - len(frames) if is_flame else len(frames)
+        wanted[(frames[-1] if frames else "all", count, row)] += 1
+    return wanted
+
+
+def is_picture_of(svg, lines, title="Flame Graph", is_flame=False):
+    """Whether a picture, as a file, has the boxes of folded stacks."""
+    counts = counted(lines)
+    total = counts[()]
+    drawn, failed = collections.Counter(), False
+    root = xml.etree.ElementTree.parse(svg).getroot()
+    failed |= root[0].tag != SPACE + "title" or root[0].text != title
+    for group in root.iter(SPACE + "g"):
+        told = re.fullmatch(r"(.*) \((1 sample|\d+ samples), ([0-9.]+)%\)", group.find(SPACE + "title").text, re.S)
+        name, count, part = told[1], int(told[2].split()[0]), float(told[3])
+        rectangle = group.find(SPACE + "rect")
+        drawn[(name, count, (int(rectangle.get("y")) - 56) / 16)] += 1
+        failed |= abs(float(rectangle.get("width")) - 1200 * count / total) > 0.02 or abs(part - 100 * count / total) > 0.005001
+        failed |= (count == 1) != (told[2] == "1 sample")
+    return not failed and drawn == boxes_of(counts, is_flame)
+
+
+def main():
+    arguments = sys.argv[1:]
+    is_flame = arguments[-1] == "flame"
+    folded, title = (arguments[: len(arguments) - is_flame] + ["Flame Graph"])[:2]
+    with open(folded, encoding="utf-8") as lines:
+        sys.exit(0 if is_picture_of(sys.stdin, lines, title, is_flame) else 1)
+
+
+if __name__ == "__main__":
+    main()

@@ -2,7 +2,7 @@
 """from_perf.py [N]: rewrites the samples that perf prints as the blocks of `framehop-stacks --frames`, or as folded stacks of at most N frames.
 
 Standard input is the output of `perf script --no-inline --ns --show-mmap-events -F comm,pid,tid,time,ip,sym,symoff,dso --symfs DIR -i
-RECORDING`. perf prints a return address less one, and an offset of the file in the place of an address. All stacks are taken to end at
+RECORDING`. perf prints a return address and its offset less one, and an offset of the file in the place of an address. All stacks are taken to end at
 their root, and
 all frames to be found by unwind data.
 """
@@ -46,7 +46,7 @@ def main():
     for name, process, thread, time, frames in found:
         print(f"{name} {process}/{thread} {time}:")
         for at, (address, function, offset, file) in enumerate(frames):
-            print(f"{address:x} {function}+{offset} ({file})" + (" [cfi]" if at else ""))
+            print(f"{address:x} {function}+{int(offset, 16) + (at > 0):#x} ({file})" + (" [cfi]" if at else ""))
         print("[root]\n")
 
 

@@ -1,5 +1,5 @@
 #!/usr/bin/env python3
-"""judge_dumps.py [--shown N] PROGRAM FOLDER..: compares the stacks that framehop-stacks has of dumps with those of other tools.
+"""judge_dumps.py [--shown N] PROGRAM FOLDER..: stacks of dumps, beside other tools'.
 
 Each file NAME.frames of a folder is a case: NAME beside it is a core file or a minidump, and a line `thread index: address` is a frame
 as another tool has it, the innermost with the index 0. checks/stacks/make_dumps.sh makes such folders. PROGRAM, the built

@@ -1,5 +1,5 @@
 #!/usr/bin/env python3
-"""judge_lines.py STACKS FILE..: compares the lines and inlined functions of framehop-stacks --lines with those of other tools.
+"""judge_lines.py STACKS FILE..: lines and inlined functions, beside other tools'.
 
 STACKS is the script framehop-stacks, or a built program. Of a core file the judge is `eu-stack -i -s`, of a recording `perf script` with
 srclines: of each frame, inlined ones too, that both have, from the innermost on, the line of the source and the name of its file must

@@ -15,9 +15,13 @@ order of their times. The cases, whose output `checks/try_stacks.sh` has:
     build_ids   a section of build ids in which a record ends before it begins, so that none can be read
     chains      samples without copies of stacks, with call chains of the kernel and of the user's side
     kernel      samples with a copy of the stack, and a call chain of the kernel
-    full        samples of whose stacks as much was copied as was asked for, of which one goes on
+    full        samples of whose stacks as much was copied as was asked for, of which one goes on, and one ends below the copy,
+                and one further above it than a copy can be long
+    vdso        a sample in the vdso
     events      samples of two events, which have names
     threads     a sample of each of two threads of a process
+    deep        a sample whose stack has 601 frame records
+    forked      a sample of a process that was forked off one that maps a file, and a process that maps another and has no sample
     jit         samples in code of no file, for which `perf-300.map` of made_up_map.txt has names, and a process without such a map
 
 Layout: Linux, include/uapi/linux/perf_event.h, and tools/perf/Documentation/perf.data-file-format.txt.
@@ -72,12 +76,12 @@ def thread(pid, tid, time):
     return identified(PERF_RECORD_FORK, 0, struct.pack("<IIIIQ", pid, pid, tid, pid, time), pid, time)
 
 
-def sample(pid, time, pc, links, tid=None):
+def sample(pid, time, pc, links, tid=None, frame_pointer=STACK):
     """A sample whose frame records, pairs of the caller's frame pointer and a return address, begin at the stack pointer; of
-    the first thread, if none is named."""
+    the first thread, if none is named, and with the first record there, if its frame pointer says no other place."""
     stack = b"".join(struct.pack("<QQ", *link) for link in links)
     registers = [0] * 33
-    registers[29], registers[31], registers[32] = STACK, STACK, pc
+    registers[29], registers[31], registers[32] = frame_pointer, STACK, pc
     body = struct.pack("<QIIQQ", pc, pid, tid or pid, time, 2) + struct.pack("<33Q", *registers)
     return record(PERF_RECORD_SAMPLE, IN_USER_SPACE, body + struct.pack("<Q", len(stack)) + stack + struct.pack("<Q", len(stack)))
 
@@ -200,7 +204,14 @@ def full():
     return app() + [
         sample(100, 10, 0x10124, [(STACK + 16, 0x10204), (0, 0x10300)]),
         sample(100, 20, 0x10124, [(STACK + 16, 0x10204), (STACK + 32, 0x10300)]),
+        sample(100, 30, 0x10124, [(0, 0x10204)], frame_pointer=STACK - 16),
+        sample(100, 40, 0x10124, [(0, 0x10204)], frame_pointer=STACK + 65528),
     ]
+
+
+def vdso():
+    whole = [(STACK + 16, 0x10204), (0, 0x10300)]
+    return app() + [mapping(100, 0x70000, 0x1000, 0, "[vdso]", 3), sample(100, 10, 0x70024, whole), sample(100, 20, 0x10124, whole)]
 
 
 def with_identifier(made):
@@ -244,7 +255,17 @@ def threads():
     return begun + [sample(100, 10, 0x10124, whole), sample(100, 20, 0x10128, whole, 101)]
 
 
-CASES = {"short_comm": short_comm, "short_fork": short_fork, "lost": lost_twice, "files": files, "lines": lines, "long": long, "build_ids": unread_build_ids, "chains": chains, "kernel": kernel, "full": full, "events": events, "jit": jit, "threads": threads}
+def deep():
+    return app() + [sample(100, 10, 0x10124, [(STACK + 16 * at, 0x10204) for at in range(1, 601)] + [(0, 0x10300)])]
+
+
+def forked():
+    whole = [(STACK + 16, 0x10204), (0, 0x10300)]
+    unsampled = mapping(150, 0x10000, 0x1000, 0, "/srv/unsampled", 3)
+    return app() + [unsampled, fork(200, 100, 5), sample(200, 10, 0x10124, whole)]
+
+
+CASES = {"short_comm": short_comm, "short_fork": short_fork, "lost": lost_twice, "files": files, "lines": lines, "long": long, "build_ids": unread_build_ids, "chains": chains, "kernel": kernel, "full": full, "vdso": vdso, "events": events, "jit": jit, "threads": threads, "deep": deep, "forked": forked}
 
 
 def event_names(names, ids):

@@ -5,6 +5,7 @@
 // as -o start.o debug_frame_start.s
 // gcc -no-pie -nostdlib -static -Wl,--build-id start.o debug_frame.o -o debug_frame
 // objcopy -R .comment -R .debug_info -R .debug_abbrev -R .debug_line -R .debug_str -R .debug_line_str -R .debug_aranges -R .debug_loclists -R .debug_rnglists debug_frame
+// objcopy --compress-debug-sections=zlib debug_frame
 // env -i /usr/local/bin/debug_frame; cut_core.py core debug_frame.core
 volatile int sink;
 volatile int *volatile nowhere;
