@@ -7,30 +7,26 @@ import sys
 
 # How many bytes of a name are printed.
 LONGEST_NAME = 2048
-# A loaded file is moved by a multiple of this, the smallest page.
-PAGE = 4096
 FRAME = re.compile(r"(#\d+ )?([0-9a-f]+) (<signal handler called> )?(.*?)( \[(?:cfi|signal|frame-pointer|guess)\])?")
-NAMED = re.compile(r"(.+)\+0x([0-9a-f]+) \((.*)\)")
-UNNAMED = re.compile(r"\[unknown\] \((.*)\+0x([0-9a-f]+)\)")
+NAMED = re.compile(r"(.+)\+0x[0-9a-f]+ \(.*\)")
 HEAD = re.compile(r"(.*) (\d+/\d+)(?: \d+)?:")
 KERNEL_MARK = "_[k]"
+# Characters that are not seen, or that change how others are: control characters of C1, spaces without a width, marks of direction,
+# ends of lines and paragraphs, and the mark of the byte order.
+HIDDEN = re.compile("[\u0080-\u009f\u200b-\u200f\u2028-\u202e\u2060-\u206f\ufeff]")
 
 
 def printed(name):
-    """A name as the program prints it, but with its semicolons."""
+    """A name as it is printed: a `;` becomes a colon, since semicolons part the frames of a folded stack, and a control character `\\xNN`; in
+    a name that is no UTF-8, or has a hidden character, so does each byte beyond ASCII. Of a longer name the rest is `...`."""
     data = name.encode("utf-8", "surrogateescape")
-    part = data[:LONGEST_NAME]
+    part = data[:LONGEST_NAME].replace(b";", b":")
     try:
-        is_text = not any(0x7F < ord(character) < 0xA0 for character in part.decode())
+        is_text = not HIDDEN.search(part.decode())
     except UnicodeDecodeError:
         is_text = False
     changed = (b"\\x%02x" % byte if byte < 32 or byte == 127 or (byte > 127 and not is_text) else bytes([byte]) for byte in part)
     return b"".join(changed).decode() + ("..." if len(data) > LONGEST_NAME else "")
-
-
-def in_stack(name):
-    """A name in a folded stack, whose frames semicolons part."""
-    return name.replace(";", ":")
 
 
 class Demangled:
@@ -67,7 +63,7 @@ class Demangled:
 
     def label(self, label):
         name = without_mark(label)
-        return in_stack(self.name(name)) + label[len(name) :]
+        return self.name(name) + label[len(name) :]
 
 
 def without_mark(label):
@@ -76,33 +72,49 @@ def without_mark(label):
 
 
 class Frame:
-    """A frame of a block: the parts of its line. `svma` is the address that its file states, where that is known."""
+    """A frame of a block: the parts of its line. Where it is in its file (`place`), and what folded stacks call it without a name
+    (`label`), the program's JSON tells."""
 
     def __init__(self, line):
         self.line = line
         number, address, self.handler, place, found = FRAME.fullmatch(line).groups("")
         self.address, self.found = int(address, 16), found[2:-1]
         self.head = f"{number}{address} "
-        self.name = self.file = self.svma = None
-        self.build_id, self.offset = "", 0
-        named, unnamed = NAMED.fullmatch(place), UNNAMED.fullmatch(place)
-        if named:
-            self.name, offset, self.file = named.groups()
-            self.offset = int(offset, 16)
-        elif unnamed:
-            self.file, self.svma = unnamed[1], int(unnamed[2], 16)
+        named = NAMED.fullmatch(place)
+        self.name = named[1] if named else None
+        self.place, self.label = None, "[unknown]"
         self.is_kernel = line.endswith(" ([kernel])")
-
-    def is_at(self, svma):
-        """Whether a file that is loaded at a page can have this address (SVMA) where the frame is looked up."""
-        looked_up = self.address - (0 if self.found in ("", "signal") or self.handler else 1)
-        return (looked_up - svma) % PAGE == 0
 
     def line_with(self, name):
         """Its line with this name."""
         start = len(self.head) + len(self.handler)
         old = "[unknown]" if self.name is None else self.name
         return self.line if name is None else self.line[:start] + name + self.line[start + len(old) :]
+
+
+def line_of(frame, numbered):
+    """The line of a frame of JSON in a block, after its number where frames of dumps are numbered."""
+    place, function = frame["module"], frame["function"]
+    if place is None:
+        where = "[unknown] ([unknown])"
+    elif function is None or function["name"] is None:
+        where = f"[unknown] ({place['file']}+{place['offset']})"
+    else:
+        where = f"{function['name']}+{function['offset']} ({place['file']})"
+    number = f"#{frame['frame']} " if numbered else ""
+    trampoline = "<signal handler called> " if frame["signal_trampoline"] else ""
+    found = f" [{frame['found_by']}]" if frame["found_by"] else ""
+    return f"{number}{int(frame['address'], 16):x} {trampoline}{where}{found}"
+
+
+def label_of(frame):
+    """What a frame of JSON without a name is called in folded stacks: its file, and where its function begins, if that is known."""
+    place, function = frame["module"], frame["function"]
+    if place is None:
+        return "[unknown]"
+    looked_up = hex(int(place["offset"], 16) - frame["after_call"])
+    start = function["start"] if function and function["start"] else looked_up
+    return f"{place['file'].rpartition('/')[2]}+{start}"
 
 
 class Blocks:
@@ -145,7 +157,7 @@ def folded_parts(head, frames, end, by_thread, sure, labels):
     frames = [frame for frame in frames if not frame.is_kernel]
     printed_frames = frames
     if sure:
-        printed_frames = list(itertools.takewhile(lambda frame: frame.found not in ("frame-pointer", "guess"), frames))
+        printed_frames = list(itertools.takewhile(lambda frame: frame.found not in ("code", "frame-pointer", "guess"), frames))
     is_cut = len(printed_frames) < len(frames)
     marks = [end] if end == "callchain" or (end != "root" and not is_cut) else []
     marks += ["not-sure"] if is_cut else []

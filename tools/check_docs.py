@@ -8,7 +8,9 @@ check_docs.py [--run [PROGRAM..]].
   several words of the other pages; and the last name of each path is declared in the module or the type before it.
 - Each function that PROVED.md names is called by a program, a binding or a public item of the library; and each public item
   of a library is named by another crate, a test or a binding.
-- docs/house.svg has the crates, what stands on what, and the lines that tools/house.py draws.
+- docs/house.svg has the crates, what stands on what, and the lines that tools/house.py draws; docs/flames.svg has the boxes of
+  the stacks that perf tells of its recording (checks/stacks/both.folded).
+- No file has the marks of a merge that was not finished.
 - No stored file has the environment of a process.
 - The Rust of README.md, of docs/EXAMPLES.md and of the doc comments' examples is in the tests, line by line.
 - No line of a document has more than 100 words, tables and code excepted; and no document more words than LIMITS says.
@@ -41,6 +43,9 @@ import house
 import tested
 
 TOP = Path(__file__).resolve().parent.parent
+sys.path.insert(0, str(TOP / "checks/stacks"))
+import boxes
+
 NAMED = [
     *(f"docs/{name}.md" for name in ("ARCHITECTURE", "CHANGING", "DEFINITIONS", "PROVED", "READING")),
     *(f"{name}/README.md" for name in ("bindings", "checks/cases", "checks/edits")),
@@ -49,7 +54,10 @@ NAMED = [
 # the pages whose commands are run
 SHOWN = ["README.md", "docs/CHECK.md", "docs/PROGRAMS.md", "docs/EXAMPLES.md"]
 PROGRAMS = ("check", "explain", "stacks", "walk")
-EXAMPLES = [TOP / f"crates/{place}/readme.rt" for place in ("framehop_vectors/src", "framehop_file_vectors/src/elf", "framehop_file_vectors/src/minidump")]
+EXAMPLES = [
+    TOP / f"crates/{place}.rt"
+    for place in ("framehop_vectors/src/readme", "framehop_vectors/src/proved_caller", "framehop_file_vectors/src/elf/readme", "framehop_file_vectors/src/minidump/readme")
+]
 # the page that a script makes of sources
 MADE = TOP / "docs/api/framehop.md"
 PATHS = TOP / "crates/framehop_vectors/src/paths.rt"
@@ -68,7 +76,7 @@ LIMITS = {
     ("docs/SPEED.md",): 2000,
     ("docs/ARCHITECTURE.md",): 2500,
     ("docs/DIFFERENCES.md",): 1800,
-    ("docs/CHANGING.md",): 1200,
+    ("docs/CHANGING.md",): 1350,
     ("docs/GATE.md",): 800,
     ("docs/CHECK.md",): 1000,
     ("docs/EXAMPLES.md",): 900,
@@ -186,6 +194,20 @@ def stored_environments(names):
 def stale_house():
     """What of docs/house.svg is not as tools/house.py draws it."""
     yield from (f"{what} is not as tools/house.py draws it" for what in house.stale((TOP / "docs/house.svg").read_text()))
+
+
+def stale_flames():
+    """Whether docs/flames.svg has other boxes than those of its recording's stacks."""
+    stacks = [line for line in (TOP / "checks/stacks/both.folded").read_text().split("\n") if line.startswith("tiny;")]
+    if not boxes.is_picture_of(TOP / "docs/flames.svg", stacks):
+        yield "it has other boxes than those of the stacks of tiny.data"
+
+
+def marks_of_merges(names):
+    """Files in which a merge has left both sides of a conflict."""
+    for name in names:
+        if re.search(rb"^(?:<{7}|>{7}) ", (TOP / name).read_bytes(), re.M):
+            yield f"{name} has the marks of a merge that was not finished"
 
 
 def long_lines(text):
@@ -452,6 +474,8 @@ def faults():
     yield from (f"docs/PROVED.md: {fault}" for fault in callers.uncalled((TOP / "docs/PROVED.md").read_text()))
     yield from callers.unnamed()
     yield from (f"docs/house.svg: {fault}" for fault in stale_house())
+    yield from (f"docs/flames.svg: {fault}" for fault in stale_flames())
+    yield from marks_of_merges(names)
     yield from stored_environments(names)
     yield from untested_doc_examples()
     yield from wrong_edits()

@@ -2,12 +2,12 @@
 # Installs what is built: install.sh PREFIX; install.sh --uninstall PREFIX.
 #
 # Into PREFIX go the programs (bin) and their manual pages (share/man/man1), what framehop-stacks is made of (lib/framehop), the
-# archive for C with the kit's shims of malloc in it (lib/libframehop.a), its header, its file for pkg-config, the same as a shared
-# library (lib/libframehop.so.0, by cc), the Python module over that (lib/python3/dist-packages), and in share/doc/framehop pages
-# with the public items and definitions of all libraries, and the licences. Nothing is written outside of PREFIX; with DESTDIR, as
-# packagers have it, all goes below that folder first. What was installed is listed in PREFIX/share/doc/framehop/files, by which it
-# is removed again. Nothing is proved or built here: what is not built yet is named, with the command that builds it, and the status
-# is 1.
+# script that runs it on many recordings (bin/framehop-stacks-dask), the archive for C with the kit's shims of malloc in it
+# (lib/libframehop.a), its header, its file for pkg-config, the same as a shared library (lib/libframehop.so.0, by cc), the Python module
+# over that (lib/python3/dist-packages), and in share/doc/framehop pages with the public items and definitions of all libraries, and the
+# licences. Nothing is written outside of PREFIX; with DESTDIR, as packagers have it, all goes below that folder first. What was
+# installed is listed in PREFIX/share/doc/framehop/files, by which it is removed again. What is not built yet, tools/build.sh builds
+# first: it says what that takes.
 set -eu -o pipefail
 top=$(cd "$(dirname "$(realpath -- "${BASH_SOURCE[0]}")")/.." && pwd)
 
@@ -59,16 +59,14 @@ SCRIPT
     put 755 "$top/tools/names.py" lib/framehop/names.py
     put 644 "$top/tools/blocks.py" lib/framehop/blocks.py
     put 644 "$top/tools/lines.py" lib/framehop/lines.py
+    put 755 "$top/tools/stacks_dask.py" bin/framehop-stacks-dask
 }
 
-# One archive of the library's and of the kit's shims of malloc, and a shared library of it. No file libframehop.so is installed: so
-# -lframehop is the archive, and a program that is linked by it runs anywhere.
-make_libraries() {
-    local kit
-    kit=$(dirname "$(dirname "$(readlink -f "$(command -v rt)")")")/c/liblibc_c.a
-    (cd "$work" && printf 'create libframehop.a\naddlib %s\naddlib %s\nsave\nend\n' "$1" "$kit" | ar -M)
+# A shared library of the archive. No file libframehop.so is installed: so -lframehop is the archive, and a program that is linked by it
+# runs anywhere.
+make_shared_library() {
     "${CC:-cc}" -shared -o "$work/libframehop.so.0" -Wl,-soname,libframehop.so.0 -Wl,-z,defs \
-        "-Wl,--version-script=$top/bindings/framehop.map" -Wl,--whole-archive "$work/libframehop.a" -Wl,--no-whole-archive
+        "-Wl,--version-script=$top/bindings/framehop.map" -Wl,--whole-archive "$top/out/libframehop.a" -Wl,--no-whole-archive
 }
 
 pkg_config() {
@@ -88,35 +86,19 @@ put_pages() {
 }
 
 if [ -n "$removes" ]; then remove; exit; fi
+"$top/tools/build.sh"
 work=$(mktemp -d)
 trap 'rm -rf "$work"' EXIT
-status=0
-for name in walk explain stacks check; do
-    if [ -x "$top/out/framehop-$name" ]; then
-        case $name in
-        stacks) put_stacks ;;
-        *) put 755 "$top/out/framehop-$name" "bin/framehop-$name" ;;
-        esac
-        put_manual "framehop-$name"
-    else
-        say "framehop-$name is not built: FRAMEHOP_BUILD=1 ./framehop-$name --help"
-        status=1
-    fi
-done
-archive=$top/crates/framehop_c/out/libframehop_c.a
-if [ -f "$archive" ] && command -v rt >/dev/null; then
-    make_libraries "$archive"
-    pkg_config >"$work/framehop.pc"
-    put 644 "$work/libframehop.a" lib/libframehop.a
-    put 644 "$work/libframehop.so.0" lib/libframehop.so.0
-    put 644 "$top/bindings/python/framehop.py" lib/python3/dist-packages/framehop.py
-    put 644 "$top/bindings/include/framehop.h" include/framehop.h
-    put 644 "$work/framehop.pc" lib/pkgconfig/framehop.pc
-else
-    say "libframehop_c.a is not built: (cd crates/framehop_c && rt lib)"
-    status=1
-fi
+for name in walk explain check; do put 755 "$top/out/framehop-$name" "bin/framehop-$name"; done
+put_stacks
+for name in walk explain stacks check; do put_manual "framehop-$name"; done
+make_shared_library
+pkg_config >"$work/framehop.pc"
+put 644 "$top/out/libframehop.a" lib/libframehop.a
+put 644 "$work/libframehop.so.0" lib/libframehop.so.0
+put 644 "$top/bindings/python/framehop.py" lib/python3/dist-packages/framehop.py
+put 644 "$top/bindings/include/framehop.h" include/framehop.h
+put 644 "$work/framehop.pc" lib/pkgconfig/framehop.pc
 put_pages
 for name in LICENSE-APACHE LICENSE-MIT; do put 644 "$top/$name" "share/doc/framehop/$name"; done
 install -m 644 -- "$work/files" "$list"
-exit "$status"

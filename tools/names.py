@@ -16,15 +16,13 @@ import stat
 import subprocess
 import sys
 import tempfile
-from bisect import bisect_right
 from collections import Counter
-from pathlib import Path
 
 # what is installed stays as it is
 sys.dont_write_bytecode = True
 
-from blocks import Blocks, Demangled, Frame, folded_parts, in_stack, printed
-from lines import Disk, Lines, recorded_build_ids, symbolizers
+from blocks import Blocks, Demangled, Frame, folded_parts, label_of, line_of, printed
+from lines import Lines, symbolizers
 
 OURS = {"demangle", "inlines", "lines"}
 FLAGS = {"frames", "explain", "sure", "by-thread", "kernel", "json", "diff", "speedscope", "svg", "flame"}
@@ -80,10 +78,7 @@ class Stacks:
         self.with_lines = command.has("lines")
         self.with_inlines = command.has("lines", "inlines")
         self.demangled = Demangled(command.has("demangle"))
-        roots, debug_dirs = command.values("root"), command.values("debug-dir")
-        copies, main_program = ((command.values(name) or [None])[-1] for name in ("buildid-dir", "exec"))
-        self.disk = Disk(roots, debug_dirs, copies, main_program)
-        self.lines = Lines(self.disk)
+        self.lines = Lines()
         self.folded = Counter()
         self.stdin = copied(sys.stdin.buffer) if "-" in command.files else None
         self.pipes = [copied(open(path, "rb")) for path in command.files if is_pipe(path)]
@@ -153,7 +148,7 @@ class Stacks:
 
     def functions(self, frame):
         """The functions at a frame, the innermost first, where the symbolizer knows them."""
-        return [] if frame.svma is None or frame.handler else self.lines.at(frame.file, frame.build_id, frame.svma)
+        return self.lines.at(frame.place) if frame.place else []
 
     def name_of(self, name, functions):
         """The name of a frame's own function: as in the source, where the symbol table has none or a mangled one."""
@@ -177,10 +172,24 @@ class Stacks:
 
     # ---- blocks
 
-    def learn(self, blocks, located):
-        """Asks for the names of blocks, and for the lines of their frames, which are located."""
+    def learn(self, blocks, path):
+        """Asks for the names of a file's blocks, and for the lines of their frames."""
+        for _ in blocks:
+            pass
         self.demangled.learn(frame.name for frame in blocks.frames.values() if frame.name is not None)
-        self.lines.learn((frame.file, frame.build_id, frame.svma) for frame in located if frame.svma is not None and not frame.handler)
+        if self.with_inlines:
+            self.locate(blocks, path)
+            self.lines.learn(frame.place for frame in blocks.frames.values() if frame.place)
+
+    def locate(self, blocks, path):
+        """Locates the frames of blocks by the program's JSON, which has the same frames."""
+        words = self.command.words(without={"frames", "explain", "sure", "kernel", "kallsyms"} | PICTURE)
+        text = self.text(*words, "--json", path, errors=subprocess.DEVNULL)
+        for modules, value in json_of(text):
+            for frame in frames_of(value):
+                known = blocks.frames.get(line_of(frame, "threads" in value))
+                if known:
+                    known.place, known.label = place_in(modules, frame), label_of(frame)
 
     def print_blocks(self, kind, paths):
         """Prints the blocks of files of a kind."""
@@ -190,7 +199,7 @@ class Stacks:
             self.print_dump(path)
         for path in paths if kind == "recording" else ():
             blocks = Blocks(self.text(*self.command.words(), path))
-            self.learn(blocks, self.located_in_recording(blocks, path))
+            self.learn(blocks, path)
             self.print_lines(blocks)
 
     def print_dump(self, path):
@@ -199,7 +208,7 @@ class Stacks:
             self.run(*self.command.words(without=PICTURE), "--speedscope", path, out=subprocess.DEVNULL)
             return
         blocks = Blocks(self.text(*self.command.words(), path))
-        self.learn(blocks, self.located_in_dump(blocks, path))
+        self.learn(blocks, path)
         self.print_lines(blocks)
 
     def print_lines(self, blocks):
@@ -237,12 +246,12 @@ class Stacks:
         """Adds the samples of a recording, with the functions that were inlined at their frames."""
         words = self.command.words(without=PICTURE | {"sure", "by-thread"})
         blocks = Blocks(self.text(*words, "--frames", path))
-        self.learn(blocks, self.located_in_recording(blocks, path))
-        labels, starts = {}, Starts(lambda: self.text(*self.command.words(without=PICTURE), path, errors=subprocess.DEVNULL))
+        self.learn(blocks, path)
+        labels = {}
 
         def labels_of(frame):
             if frame.line not in labels:
-                labels[frame.line] = list(self.labels(frame, starts))
+                labels[frame.line] = list(self.labels(frame))
             return labels[frame.line]
 
         head, frames = "", []
@@ -255,7 +264,7 @@ class Stacks:
                 parts = folded_parts(head, frames, line, self.command.has("by-thread"), self.command.has("sure"), labels_of)
                 self.folded[";".join(parts)] += 1
 
-    def labels(self, frame, starts):
+    def labels(self, frame):
         """What a frame and those that are inlined at it are called in folded stacks, the innermost first."""
         if frame.is_kernel:
             yield f"{hex(frame.address) if frame.name is None else self.demangled.label(frame.name)}_[k]"
@@ -265,9 +274,9 @@ class Stacks:
             return
         functions = self.functions(frame)
         name = self.name_of(frame.name, functions)
-        own = starts.label(frame) if name is None else name, self.own_place(functions)
+        own = frame.label if name is None else name, self.own_place(functions)
         for name, place in [*self.inlined(functions), own]:
-            yield in_stack(f"{name} {os.path.basename(place[0])}:{place[1]}" if place else name)
+            yield f"{name} {os.path.basename(place[0])}:{place[1]}" if place else name
 
     def written(self):
         """A file of the folded stacks, for the program. Where there are none it has a blank line, which counts nothing."""
@@ -298,100 +307,30 @@ class Stacks:
     # ---- JSON
 
     def print_json(self):
-        """Prints the JSON of dumps."""
-        dumps = []
-        for line in self.text(*self.command.words(), *self.command.files):
-            dumps.append(json.loads(line))
-        frames = [(dump, frame) for dump in dumps for thread in dump["threads"] for frame in thread["frames"]]
-        self.demangled.learn(frame["function"]["name"] for _, frame in frames if frame["function"] and frame["function"]["name"])
+        """Prints the JSON of dumps and recordings, a line after another."""
+        text = self.text(*self.command.words(), *self.command.files)
+        names, places = set(), set()
+        for modules, value in json_of(text):
+            for frame in frames_of(value):
+                names.add(frame["function"] and frame["function"]["name"])
+                places.add(place_in(modules, frame))
+        self.demangled.learn(filter(None, names))
         if self.with_inlines:
-            self.lines.learn(place for place in (place_in(*each) for each in frames) if place)
-            for dump, frame in frames:
-                self.add_lines(frame, place_in(dump, frame))
-        for _, frame in frames:
-            if frame["function"] and frame["function"]["name"]:
-                frame["function"]["name"] = self.demangled.name(frame["function"]["name"])
-        for dump in dumps:
-            print(json.dumps(dump, ensure_ascii=False, separators=(",", ":"), sort_keys=True))
+            self.lines.learn(filter(None, places))
+        for modules, value in json_of(text):
+            for frame in frames_of(value):
+                self.name_in_json(frame, place_in(modules, frame))
+            print(json.dumps(value, ensure_ascii=False, separators=(",", ":"), sort_keys=True))
 
-    def add_lines(self, frame, place):
-        """Adds to a frame of JSON what was inlined at it, and its line of the source."""
-        functions = self.lines.at(*place) if place else []
-        frame["inlined"] = [in_json({"function": name}, where, self.with_lines) for name, where in self.inlined(functions)]
-        in_json(frame, self.own_place(functions), self.with_lines)
+    def name_in_json(self, frame, place):
+        """Gives a frame of JSON the name of its source, and adds what was inlined at it, and its line there."""
+        functions = self.lines.at(place) if self.with_inlines and place else []
+        if self.with_inlines:
+            frame["inlined"] = [in_json({"function": name}, where, self.with_lines) for name, where in self.inlined(functions)]
+            in_json(frame, self.own_place(functions), self.with_lines)
         name = self.name_of(frame["function"] and frame["function"]["name"], functions)
         if name is not None and frame["function"]:
             frame["function"]["name"] = name
-
-    # ---- where frames are
-
-    def located_in_dump(self, blocks, path):
-        """The frames of a dump, located by its JSON, which has them in the same order."""
-        frames = [what for what, _ in blocks if isinstance(what, Frame)]
-        if self.with_inlines:
-            text = self.text(*self.command.words(without={"frames", "explain"}), "--json", path, errors=subprocess.DEVNULL)
-            dumps = [json.loads(line) for line in text]
-            places = [place_in(dump, frame) for dump in dumps for thread in dump["threads"] for frame in thread["frames"]]
-            for frame, place in zip(frames, places):
-                if place:
-                    frame.file, frame.build_id, frame.svma = place
-        return frames
-
-    def located_in_recording(self, blocks, path):
-        """The frames of a recording, located by the addresses that they have, or by the symbol tables of their files."""
-        for _ in blocks:
-            pass
-        frames = [frame for frame in blocks.frames.values() if frame.file and not frame.is_kernel]
-        if not self.with_inlines:
-            return []
-        ids = build_ids(self.stdin.name if path == "-" else path)
-        names = {}
-        for frame in frames:
-            frame.build_id = ids.get(frame.file, "")
-            if frame.name is not None:
-                names.setdefault((frame.file, frame.build_id), set()).add(frame.name)
-        values = {key: self.symbol_values(*key, names[key]) for key in names}
-        for frame in frames:
-            if frame.name is not None:
-                found = {value + frame.offset for value in values[frame.file, frame.build_id].get(frame.name, ())}
-                found = list(filter(frame.is_at, found))
-                frame.svma = found[0] if len(found) == 1 else None
-        return frames
-
-    def symbol_values(self, file, build_id, names):
-        """The values of symbols of a mapped file that has lines, by their names."""
-        elf = self.disk.file_of(file, build_id)
-        debug_file = elf and self.disk.debug_file_of(file, elf)
-        values = {}
-        for table in (elf, debug_file) if debug_file else ():
-            for name, found in table.values({name.encode("utf-8", "surrogateescape") for name in names}).items():
-                values.setdefault(name.decode("utf-8", "surrogateescape"), set()).update(found)
-        return values
-
-
-class Starts:
-    """The first addresses of functions without names, by the folded stacks that the program prints: blocks do not have them."""
-
-    def __init__(self, folded):
-        self.folded = folded
-        self.by_file = None
-
-    def label(self, frame):
-        """What a frame without a name is called in folded stacks."""
-        if frame.svma is None:
-            return "[unknown]"
-        if self.by_file is None:
-            self.by_file = {}
-            for label in {label for line in self.folded() for label in line.rpartition(" ")[0].split(";")}:
-                file, plus, start = label.rpartition("+0x")
-                if plus and all(digit in "0123456789abcdef" for digit in start):
-                    self.by_file.setdefault(file, []).append(int(start, 16))
-            for starts in self.by_file.values():
-                starts.sort()
-        file = frame.file.rpartition("/")[2]
-        starts = self.by_file.get(file, [])
-        at = bisect_right(starts, frame.svma)
-        return f"{file}+{starts[at - 1] if at else frame.svma:#x}"
 
 
 def copied(stream):
@@ -422,21 +361,27 @@ def in_json(value, place, with_lines):
     return value
 
 
-def place_in(dump, frame):
-    """The file of a frame of JSON, its build id, and the address in it; None where no file was read."""
+def json_of(text):
+    """The values of the lines of JSON, each with the modules of its process or recording, by the names of their files."""
+    text.seek(0)
+    modules = {}
+    for line in text:
+        value = json.loads(line)
+        if "modules" in value:
+            modules = {each["file"]: each for each in value["modules"]}
+        yield modules, value
+
+
+def frames_of(value):
+    """The frames of a dump's threads, or of a stack."""
+    return itertools.chain.from_iterable(stack["frames"] for stack in value.get("threads", [value]) if "frames" in stack)
+
+
+def place_in(modules, frame):
+    """Where a frame of JSON is looked up: the paths of its file and of its debug file, and the address there; None where no file was read."""
     module = frame["module"]
-    if not module or frame["signal_trampoline"]:
-        return None
-    found = next((each for each in dump["modules"] if each["file"] == module["file"] and each["file_read"]), None)
-    return (module["file"], found.get("build_id") or "", int(module["offset"], 16)) if found else None
-
-
-def build_ids(path):
-    """The build ids that a recording has, or the recordings of a folder."""
-    ids = {}
-    for file in sorted(Path(path).glob("*.data")) if os.path.isdir(path) else [path]:
-        ids.update(recorded_build_ids(file))
-    return ids
+    file = modules.get(module["file"]) if module and not frame["signal_trampoline"] else None
+    return ((file["path"], file["debug_path"]), int(module["offset"], 16) - frame["after_call"]) if file and file["file_read"] else None
 
 
 def missing_tool(command):

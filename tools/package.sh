@@ -1,7 +1,7 @@
 #!/usr/bin/env bash
 # Makes a Debian package of what is built: package.sh [FOLDER]. The package, framehop_VERSION_ARCH.deb, is written to FOLDER, or here.
 #
-# It has what install.sh installs below /usr. Status 1 where something is not built: then there is no package.
+# It has what install.sh installs below /usr. What is not built yet is built first.
 set -eu -o pipefail
 tools=$(dirname "$(realpath -- "${BASH_SOURCE[0]}")")
 folder=$(realpath -- "${1:-.}")
@@ -16,7 +16,7 @@ Version: $version
 Architecture: $(dpkg --print-architecture)
 Maintainer: Sevoluman maintainers <maintainers@users.noreply.sevoluman.example>
 Depends: libc6
-Suggests: python3, binutils, llvm
+Suggests: python3, binutils, llvm, python3-distributed
 Section: devel
 Priority: optional
 Description: A stack frame unwinder for profilers and crash readers
