@@ -133,8 +133,8 @@ abbrev pub right_unless : List ℕ → Option Cause → Finding (Unit {0})
 right_unless name None = Ok tt
 right_unless name (Some cause) = Err (wrong name cause)
 
-unfoldable pub test : Kind → List ℕ → Data → Finding (Unit {0})
-test kind name fields =
+unfoldable pub test_field : Kind → List ℕ → Data → Finding (Unit {0})
+test_field kind name fields =
     asked name Missing (get name fields) >>= λ value. right_unless name (kind_cause kind value)
 
 abbrev pub test_given : Kind → List ℕ → Option Data → Finding (Unit {0})
@@ -186,7 +186,7 @@ test_word number value = right_word number (address value)
 
 unfoldable pub test_words : Data → Finding (Unit {0})
 test_words memory =
-    test Address (codes "base") memory >>= λ right. find_items (codes "words") memory >>= λ words.
+    test_field Address (codes "base") memory >>= λ right. find_items (codes "words") memory >>= λ words.
     test_list test_word words
 
 unfoldable pub test_memory : Data → Finding (Unit {0})
@@ -196,9 +196,9 @@ test_memory fields =
 -- `regs`: the registers of aarch64 and of x86_64
 unfoldable pub test_aarch64 : Data → Finding (Unit {0})
 test_aarch64 regs = all_right (
-    test Address (codes "lr") regs
-    ∷ test Address (codes "sp") regs
-    ∷ test Address (codes "fp") regs
+    test_field Address (codes "lr") regs
+    ∷ test_field Address (codes "sp") regs
+    ∷ test_field Address (codes "fp") regs
     ∷ test_optional Address (codes "mask") regs
     ∷ [])
 
@@ -226,9 +226,9 @@ test_numbered regs = all_right (
 
 unfoldable pub test_x86_64 : Data → Finding (Unit {0})
 test_x86_64 regs = all_right (
-    test Address (codes "ip") regs
-    ∷ test Address (codes "sp") regs
-    ∷ test Address (codes "bp") regs
+    test_field Address (codes "ip") regs
+    ∷ test_field Address (codes "sp") regs
+    ∷ test_field Address (codes "bp") regs
     ∷ test_named regs
     ∷ test_numbered regs
     ∷ [])
@@ -277,12 +277,12 @@ test_sections list fields =
 -- `add`, `remove`, `step` and `walk`
 unfoldable pub test_place : Data → Finding (Unit {0})
 test_place fields = all_right (
-    test Number (codes "unwinder") fields
-    ∷ test Text (codes "name") fields
-    ∷ test Address (codes "start") fields
-    ∷ test Address (codes "end") fields
-    ∷ test Address (codes "base") fields
-    ∷ test Address (codes "base_svma") fields
+    test_field Number (codes "unwinder") fields
+    ∷ test_field Text (codes "name") fields
+    ∷ test_field Address (codes "start") fields
+    ∷ test_field Address (codes "end") fields
+    ∷ test_field Address (codes "base") fields
+    ∷ test_field Address (codes "base_svma") fields
     ∷ [])
 
 unfoldable pub test_add : Data → Finding (Unit {0})
@@ -291,7 +291,7 @@ test_add fields = all_right (
 
 unfoldable pub test_remove : Data → Finding (Unit {0})
 test_remove fields = all_right (
-    test Number (codes "unwinder") fields ∷ test Address (codes "start") fields ∷ [])
+    test_field Number (codes "unwinder") fields ∷ test_field Address (codes "start") fields ∷ [])
 
 -- a return address is not 0
 abbrev pub right_location : List ℕ → ℕ → Finding (Unit {0})
@@ -305,8 +305,8 @@ test_location fields =
 
 unfoldable pub test_step : List ℕ → Data → Finding (Unit {0})
 test_step arch fields = all_right (
-    test Number (codes "unwinder") fields
-    ∷ test Number (codes "cache") fields
+    test_field Number (codes "unwinder") fields
+    ∷ test_field Number (codes "cache") fields
     ∷ test_location fields
     ∷ test_registers arch fields
     ∷ test_memory fields
@@ -314,9 +314,9 @@ test_step arch fields = all_right (
 
 unfoldable pub test_walk : List ℕ → Data → Finding (Unit {0})
 test_walk arch fields = all_right (
-    test Number (codes "unwinder") fields
-    ∷ test Number (codes "cache") fields
-    ∷ test Address (codes "pc") fields
+    test_field Number (codes "unwinder") fields
+    ∷ test_field Number (codes "cache") fields
+    ∷ test_field Address (codes "pc") fields
     ∷ test_registers arch fields
     ∷ test_memory fields
     ∷ test_below (2 ^ 32) (codes "limit") fields
@@ -326,12 +326,12 @@ test_walk arch fields = all_right (
 unfoldable pub test_verb : List ℕ → List ℕ → Data → Finding (Unit {0})
 test_verb arch verb fields =
     if bytes_eq verb (codes "new") then Ok tt
-    else if bytes_eq verb (codes "clone") then test Number (codes "unwinder") fields
+    else if bytes_eq verb (codes "clone") then test_field Number (codes "unwinder") fields
     else if bytes_eq verb (codes "add") then test_add fields
     else if bytes_eq verb (codes "remove") then test_remove fields
     else if bytes_eq verb (codes "step") then test_step arch fields
     else if bytes_eq verb (codes "walk") then test_walk arch fields
-    else if bytes_eq verb (codes "stats") then test Number (codes "cache") fields
+    else if bytes_eq verb (codes "stats") then test_field Number (codes "cache") fields
     else Err (wrong (codes "do") Unknown)
 
 unfoldable pub test_command : List ℕ → Data → Finding (Unit {0})

@@ -4,7 +4,7 @@ ghost use Rattle.std.specs.Char.{is_ascii_hexdigit};
 ghost use Rattle.std.specs.List.{list_all};
 ghost use Rattle.serde_json.specs.View.{view, items_view};
 ghost use Rattle.framehop_walk.specs.Sections.{two_addresses};
-ghost use Rattle.framehop_explain_program.specs.Faults.{found, tested, find_text, find_items, find_object, find_number, find_address, find_word, unless, digits_cause, kind_cause, right_unless, test, test_optional, test_below, test_list, test_items, test_word, test_words, test_memory, test_aarch64, test_named, test_numbered, test_x86_64, test_registers_of, test_registers, test_place, test_add, test_remove, test_location, test_step, test_walk, test_verb, test_command, test_numbered_command, find_arch, test_commands, test_input, test_session, unwinders_after, test_numbers_of, test_numbers, test_unwinder, test_cache, names_unwinder as does_name_unwinder, names_cache as does_name_cache, made_by_verb as made_by_this, made_by};
+ghost use Rattle.framehop_explain_program.specs.Faults.{found, tested, find_text, find_items, find_object, find_number, find_address, find_word, unless, digits_cause, kind_cause, right_unless, test_field, test_optional, test_below, test_list, test_items, test_word, test_words, test_memory, test_aarch64, test_named, test_numbered, test_x86_64, test_registers_of, test_registers, test_place, test_add, test_remove, test_location, test_step, test_walk, test_verb, test_command, test_numbered_command, find_arch, test_commands, test_input, test_session, unwinders_after, test_numbers_of, test_numbers, test_unwinder, test_cache, names_unwinder as does_name_unwinder, names_cache as does_name_cache, made_by_verb as made_by_this, made_by};
 
 use crate::fault::{Cause, Fault};
 use crate::sections::check_sections;
@@ -312,9 +312,9 @@ fn check_each_word(words: &[Value]) -> Result<(), Fault>
 }
 
 /// Tests a field.
-#[tactic(auto, unfolding(crate::specs::Faults::test))]
+#[tactic(auto, unfolding(crate::specs::Faults::test_field))]
 pub fn check(object: &Value, field: &'static str, kind: Kind) -> Result<(), Fault>
-    ensures { tested result ≡ test kind field.entry.now (view object.now) }
+    ensures { tested result ≡ test_field kind field.entry.now (view object.now) }
 {
     match object.get(field) {
         Some(value) => check_value(field, kind, value),
