@@ -11,7 +11,7 @@ check_docs.py [--run [PROGRAM..]].
 - docs/house.svg has the crates, what stands on what, and the lines that tools/house.py draws; docs/flames.svg has the boxes of
   the stacks that perf tells of its recording (checks/stacks/both.folded).
 - No file has the marks of a merge that was not finished.
-- No stored file has the environment of a process.
+- No stored file has the environment of a process; no attribute has the word by which `rt ci` knows a test.
 - The Rust of README.md, of docs/EXAMPLES.md and of the doc comments' examples is in the tests, line by line.
 - No line of a document has more than 100 words, tables and code excepted; and no document more words than LIMITS says.
 - docs/api/framehop.md is what tools/api.py makes, and has each name that the tests name there; docs/DEFINITIONS.md and
@@ -208,6 +208,15 @@ def marks_of_merges(names):
     for name in names:
         if re.search(rb"^(?:<{7}|>{7}) ", (TOP / name).read_bytes(), re.M):
             yield f"{name} has the marks of a merge that was not finished"
+
+
+def mistaken_tests(names):
+    """Attributes that `rt ci` takes for those of tests: it looks for the word, also in the path of a definition."""
+    for name in names:
+        if name.startswith("crates/") and name.endswith(".rt"):
+            for found in re.findall(r"#\s*\[[^]]*\btest\b", (TOP / name).read_text()):
+                if found not in ("#[test", "#[cfg(test"):
+                    yield f"{name}: `{found}` is taken for a test"
 
 
 def long_lines(text):
@@ -476,6 +485,7 @@ def faults():
     yield from (f"docs/house.svg: {fault}" for fault in stale_house())
     yield from (f"docs/flames.svg: {fault}" for fault in stale_flames())
     yield from marks_of_merges(names)
+    yield from mistaken_tests(names)
     yield from stored_environments(names)
     yield from untested_doc_examples()
     yield from wrong_edits()
