@@ -39,7 +39,7 @@ joined [] before = []
 joined (frame ∷ frames) [] = []
 joined (frame ∷ frames) (before ∷ befores) = record { frame = frame; before = before.count } ∷ joined frames befores
 
--- whether a box is drawn, by its width in the second run
+-- whether a box is drawn, by its place in the second run
 abbrev pub is_drawn : Totals → Change → Bool
 is_drawn totals change = is_shown totals.now change.box
 
@@ -85,7 +85,7 @@ change_picture_of drawing totals changes left_out = let rows = deepest_of change
     head_of drawing.title.now rows left_out ++ flat_map (change_drawn drawing.layout totals rows) changes
     ++ script_of drawing.script ++ codes "</svg>\n"
 
--- all of the picture: those boxes that are wide enough
+-- all of the picture: those boxes that are drawn
 abbrev pub shown_changes_of : Drawing → Totals → List Change → List ℕ
 shown_changes_of drawing totals changes = let shown = filter (is_drawn totals) changes in
     change_picture_of drawing totals shown (length changes - length shown)

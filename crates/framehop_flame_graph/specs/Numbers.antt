@@ -1,5 +1,5 @@
 -- Places and widths, in hundredths of a pixel, rounded down; and parts that are told, rounded to the nearest.
-use Rattle.std.specs.Prelude.{ℕ, Bool, List, ◌++◌, ◌+◌, ◌-◌, ◌*◌, ◌/◌, ◌%◌, codes, nat_le}
+use Rattle.std.specs.Prelude.{ℕ, Bool, List, ◌++◌, ◌+◌, ◌-◌, ◌*◌, ◌/◌, ◌%◌, ◌&&◌, codes, nat_le}
 use Rattle.std.specs.Fmt.{decimal}
 use Rattle.framehop_flame_graph.specs.Boxes.{Box}
 
@@ -19,9 +19,9 @@ edge total count = share count 120000 total
 abbrev pub width_of : ℕ → Box → ℕ
 width_of total box = edge total (box.left + box.count) - edge total box.left
 
--- A box is drawn if it is a tenth of a pixel wide or more.
+-- A box is drawn if it is within 4,096 rows of the root's, which are 65,536 pixels, and a tenth of a pixel wide or more.
 abbrev pub is_shown : ℕ → Box → Bool
-is_shown total box = nat_le 10 (width_of total box)
+is_shown total box = nat_le box.depth 4096 && nat_le 10 (width_of total box)
 
 -- hundredths as a decimal number
 abbrev pub hundredths : ℕ → List ℕ

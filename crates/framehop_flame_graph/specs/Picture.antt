@@ -75,7 +75,7 @@ heading_of title = codes "<text x=\"600\" y=\"24\" font-size=\"17\" text-anchor=
 -- how many boxes were left out, if any were
 unfoldable pub note_of : ℕ → List ℕ
 note_of left_out = if left_out == 0 then [] else
-    codes "<text x=\"0\" y=\"44\">Boxes narrower than a tenth of a pixel, left out: " ++ decimal left_out ++ codes "</text>\n"
+    codes "<text x=\"0\" y=\"44\">Boxes narrower than a tenth of a pixel or beyond 4096 frames, left out: " ++ decimal left_out ++ codes "</text>\n"
 
 -- what comes before the boxes
 abbrev pub head_of : List ℕ → ℕ → ℕ → List ℕ
@@ -98,7 +98,7 @@ picture_of drawing total boxes left_out = let rows = deepest boxes in
     head_of drawing.title.now rows left_out ++ flat_map (drawn drawing.layout total rows) boxes
     ++ script_of drawing.script ++ codes "</svg>\n"
 
--- all of the picture: those boxes that are wide enough
+-- all of the picture: those boxes that are drawn
 abbrev pub shown_of : Drawing → ℕ → List Box → List ℕ
 shown_of drawing total boxes = let shown = filter (is_shown total) boxes in
     picture_of drawing total shown (length boxes - length shown)

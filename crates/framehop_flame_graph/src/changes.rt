@@ -46,7 +46,7 @@ pub fn join<'a>(
     Ok(changes)
 }
 
-/// Returns the boxes that are wide enough to be drawn.
+/// Returns the boxes that are drawn.
 pub(crate) fn shown_changes<'a>(
     alloc: Global,
     totals: Totals,

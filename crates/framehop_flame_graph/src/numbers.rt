@@ -13,6 +13,9 @@ const WIDTH: u64 = 120_000;
 /// The width below which a box is left out, in hundredths of a pixel.
 const LEAST_WIDTH: u64 = 10;
 
+/// How many frames from the root boxes are drawn.
+const DEEPEST: usize = 4_096;
+
 /// Returns the part of a whole that `part` is of `total`, rounded to the nearest, and up from the middle.
 pub(crate) fn nearest_share(part: u64, whole: u16, total: u64) -> u64
     requires some { 0 < total }
@@ -23,12 +26,15 @@ pub(crate) fn nearest_share(part: u64, whole: u16, total: u64) -> u64
     ((twice + u128::from(total)) / (2 * u128::from(total))) as u64
 }
 
-/// Returns whether a box is wide enough to be drawn.
+/// Returns whether a box is drawn: one that is wide enough, and not too far from the root.
 pub(crate) fn is_shown(total: u64, frame: FrameBox<'_>) -> bool
     requires some { 0 < total }
     requires within { frame.left + frame.count ≤ total }
     ensures { result ≡ is_shown total (boxed frame.entry) }
 {
+    if DEEPEST < frame.depth {
+        return false;
+    }
     LEAST_WIDTH <= width_of(total, frame)
 }
 

@@ -125,7 +125,7 @@ fn push_note(alloc: Global, out: &mut String, left_out: usize) -> Result<(), All
         return Ok(());
     }
     let text = format!(in alloc;
-        "<text x=\"0\" y=\"44\">Boxes narrower than a tenth of a pixel, left out: {left_out}</text>\n"
+        "<text x=\"0\" y=\"44\">Boxes narrower than a tenth of a pixel or beyond 4096 frames, left out: {left_out}</text>\n"
     )?;
     out.push_str(text.as_str())?;
     Ok(())

@@ -25,8 +25,8 @@ use std::alloc::{AllocError, Global};
 /// There is a box for each list of frames with which a stack begins, in a row of 16 pixels for each frame, and a root
 /// `all` at the top or at the bottom. A box is as wide as the counts of its stacks, and tells its name, its count and its
 /// part of all where the pointer is over it. Its name is cut where it does not fit, and left out where fewer than three
-/// characters fit. Boxes narrower than a tenth of a pixel are left out, and so are those further in; the picture says how
-/// many.
+/// characters fit. Boxes narrower than a tenth of a pixel are left out, and so are those further in, and those beyond
+/// 4,096 frames; the picture says how many.
 ///
 /// # Errors
 ///
@@ -56,7 +56,7 @@ pub fn flame_graph(
     Ok(draw(alloc, drawing, total, shown.as_slice(), left_out)?)
 }
 
-/// Returns the boxes that are wide enough to be drawn.
+/// Returns the boxes that are drawn.
 fn shown_of<'a>(
     alloc: Global,
     total: u64,

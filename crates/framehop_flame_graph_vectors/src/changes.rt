@@ -42,7 +42,7 @@ fn draws_what_grew(rt: HostRuntime) -> Result<(), Fail> {
         "<g><title>a (5 samples, 83.33%; before 3 samples, 60.00%)</title><rect x=\"0.00\" width=\"1000.00\" y=\"88\" height=\"15\" fill=\"rgb(230,191,191)\"/><text x=\"3.00\" y=\"100\">a</text></g>",
         "<g><title>b (1 sample, 16.67%; before 0 samples, 0.00%)</title><rect x=\"1000.00\" width=\"200.00\" y=\"88\" height=\"15\" fill=\"rgb(230,90,90)\"/><text x=\"1003.00\" y=\"100\">b</text></g>",
         // the box of `old` has no width
-        "<text x=\"0\" y=\"44\">Boxes narrower than a tenth of a pixel, left out: 1</text>",
+        "<text x=\"0\" y=\"44\">Boxes narrower than a tenth of a pixel or beyond 4096 frames, left out: 1</text>",
     ] {
         assert!(rt; has_line(svg.as_str(), wanted), "{wanted}");
     }

@@ -185,7 +185,8 @@ fn leaves_out_narrow_boxes(rt: HostRuntime) -> Result<(), Fail> {
             .count(),
         2
     );
-    let note = "<text x=\"0\" y=\"44\">Boxes narrower than a tenth of a pixel, left out: 2</text>";
+    let note =
+        "<text x=\"0\" y=\"44\">Boxes narrower than a tenth of a pixel or beyond 4096 frames, left out: 2</text>";
     assert!(rt; has_line(hidden.as_str(), note));
     assert!(rt; !shown.as_str().lines().any(|line| line.contains("left out")));
     // the rows of boxes that are left out take no room
@@ -200,6 +201,31 @@ fn leaves_out_narrow_boxes(rt: HostRuntime) -> Result<(), Fail> {
             "<g><title>z (12000 samples, 99.99%)</title><rect x=\"0.09\" width=\"1199.91\" y=\"72\""
         ))
     );
+    Ok(())
+}
+
+/// Returns one stack of so many frames, counted once.
+fn deep_stack(alloc: Global, frames: usize) -> Result<Vec<u8>, Fail> {
+    let mut text = Vec::new(alloc);
+    for _ in 1..frames {
+        text.extend_from_slice(b"f;")?;
+    }
+    text.extend_from_slice(b"f 1\n")?;
+    Ok(text)
+}
+
+#[test]
+fn leaves_out_deep_boxes(rt: HostRuntime) -> Result<(), Fail> {
+    let alloc = rt.alloc();
+    let whole = drawn(alloc, deep_stack(alloc, 4096)?.as_slice())?;
+    assert!(rt; !whole.as_str().contains("left out"));
+    let cut = drawn(alloc, deep_stack(alloc, 5000)?.as_slice())?;
+    let note =
+        "<text x=\"0\" y=\"44\">Boxes narrower than a tenth of a pixel or beyond 4096 frames, left out: 904</text>";
+    assert!(rt; has_line(cut.as_str(), note));
+    // 16 pixels for each row, and 82 beside them
+    assert!(rt; whole.as_str().contains(" height=\"65618\" "));
+    assert!(rt; cut.as_str().contains(" height=\"65618\" "));
     Ok(())
 }
 
