@@ -227,6 +227,25 @@ abbrev pub caller_or : {Regs : Type 0} → Option (FrameView Regs) → Next Regs
 caller_or (Some caller) other = Ok caller
 caller_or None other = other
 
+-- what a row needs is not known
+abbrev pub is_unknown : BacktraceEnd → Bool
+is_unknown CfaUnknown = true
+is_unknown ReturnAddressUnknown = true
+is_unknown Root = false
+is_unknown FramePointerZero = false
+is_unknown Limit = false
+is_unknown SignalFrameUnread = false
+is_unknown DidNotAdvance = false
+is_unknown RegistersUnknown = false
+is_unknown (Refused error) = false
+is_unknown NoCaller = false
+is_unknown (NotCode address) = false
+
+-- by a row, or where what it needs is not known by a run
+abbrev pub row_or : {Regs : Type 0} → Option (FrameView Regs) → Next Regs → Next Regs
+row_or run (Ok frame) = Ok frame
+row_or run (Err end) = if is_unknown end then caller_or run (Err end) else Err end
+
 -- a stack: its machine; what a step of the library does, and whether PE or compact unwind info unwinds a frame; the
 -- rows of the modules, and which functions their unwind data covers; the memory and the code
 pub record Stack (Regs : Type 0) : Type 0 where
@@ -254,7 +273,9 @@ stack_of machine step is_by_info rows covers memory code = record {
 module _ {Regs : Type 0} (stack : Stack Regs) (frame : FrameView Regs) where
   -- by what the modules have for the frame
   abbrev pub by_finding : Finding → Next Regs
-  by_finding (by_row section row) = by_row_of stack.machine stack.code stack.memory frame section row
+  by_finding (by_row section row) =
+      row_or (by_run stack.machine stack.code frame (run_source stack.memory stack.code stack.covers))
+      (by_row_of stack.machine stack.code stack.memory frame section row)
   by_finding uncovered =
       caller_or (by_run stack.machine stack.code frame (run_source stack.memory stack.code stack.covers))
       (by_start stack.machine stack.code frame (stack.step frame.location frame.regs stack.memory)

@@ -1,7 +1,7 @@
 //! Frames of a backtrace, and how it ends.
 ghost use Rattle.std.specs.Prelude.{◌≡◌};
 ghost use Rattle.framehop_core.specs.CodeAddress.{at_instruction_pointer};
-ghost use Rattle.framehop_backtrace.specs.Backtrace.{frame_view, end_of_refusal, root_of};
+ghost use Rattle.framehop_backtrace.specs.Backtrace.{frame_view, end_of_refusal, is_unknown, root_of};
 
 use framehop_columns::caller::RowRefusal;
 use framehop_columns::register_file::RegisterFile;
@@ -19,8 +19,8 @@ pub enum FoundBy {
     /// A signal interrupted it: its registers are in the signal frame.
     Signal,
 
-    /// By running its callee's code to the return, where call frames of the callee's module do not cover it. It is right
-    /// after a call, or after code that nobody has.
+    /// By running its callee's code to the return, where call frames of the callee's module do not cover it, or its row
+    /// needs what isn't known. It is right after a call, or after code that nobody has.
     Run,
 
     /// By the frame pointer of its callee, of which no unwind data is known.
@@ -106,6 +106,24 @@ pub(crate) fn end_of_refusal(refusal: RowRefusal) -> BacktraceEnd
         RowRefusal::CfaUnknown => BacktraceEnd::CfaUnknown,
         RowRefusal::ReturnAddressUnknown => BacktraceEnd::ReturnAddressUnknown,
         RowRefusal::DidNotAdvance => BacktraceEnd::DidNotAdvance,
+    }
+}
+
+/// Returns whether a row has this end since what it needs isn't known.
+pub(crate) fn is_unknown(end: BacktraceEnd) -> bool
+    ensures { result ≡ is_unknown end }
+{
+    match end {
+        BacktraceEnd::CfaUnknown | BacktraceEnd::ReturnAddressUnknown => true,
+        BacktraceEnd::Root
+        | BacktraceEnd::FramePointerZero
+        | BacktraceEnd::Limit
+        | BacktraceEnd::SignalFrameUnread
+        | BacktraceEnd::DidNotAdvance
+        | BacktraceEnd::RegistersUnknown
+        | BacktraceEnd::Refused(_)
+        | BacktraceEnd::NoCaller
+        | BacktraceEnd::NotCode(_) => false,
     }
 }
 

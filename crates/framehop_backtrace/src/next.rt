@@ -9,9 +9,9 @@ ghost use Rattle.framehop_backtrace.specs.Rows.{Finding, IsRow, finding_of};
 ghost use Rattle.framehop_backtrace.specs.Kept.{AreFound, kept_rows};
 ghost use Rattle.framehop_backtrace.specs.Columns.{returned_to};
 ghost use Rattle.framehop_backtrace.specs.Covers.{is_covered};
-ghost use Rattle.framehop_backtrace.specs.Backtrace.{frame_view, moved_to, by_signal, by_row_of, returned_as, stepped, is_by_frame_pointer, has_no_frame_pointer, end_of_error, end_without_caller, guessed, by_library, by_guess, by_start, without_row, run_source, by_run, caller_or, by_finding, stack_of, next_of};
+ghost use Rattle.framehop_backtrace.specs.Backtrace.{frame_view, moved_to, by_signal, by_row_of, returned_as, stepped, is_by_frame_pointer, has_no_frame_pointer, end_of_error, end_without_caller, guessed, by_library, by_guess, by_start, without_row, run_source, by_run, caller_or, row_or, by_finding, stack_of, next_of};
 
-use crate::frame::{BacktraceEnd, FoundBy, Frame, end_of_refusal, root_of};
+use crate::frame::{BacktraceEnd, FoundBy, Frame, end_of_refusal, is_unknown, root_of};
 use crate::guess::{Evidence, evidence_of};
 use crate::kept::{FoundRow, RowRoom};
 use crate::machine::{BacktraceUnwinder, known_or};
@@ -31,8 +31,9 @@ use std::alloc::{AllocError, Global};
 ///
 /// 1. A frame in a trampoline, to which the handler of a signal returns, has the interrupted code as its caller.
 /// 2. A frame for which the modules have a row has its caller by that, over all registers that are known.
-/// 3. A frame of x86_64 that call frames of its module do not cover has its caller by running its code, if that returns
-///    to an address right after a call, or after code that nobody has.
+/// 3. A frame of x86_64 that call frames of its module do not cover, or whose row needs a register or a word that isn't
+///    known, has its caller by running its code, if that returns to an address right after a call, or after code that
+///    nobody has.
 /// 4. Else the library's step is taken, over the registers that it has. The rule of a function's start is a guess: its
 ///    return address is compared with that of the frame pointer, and taken unless that is likelier. Either must lie right
 ///    after a call, or after code that nobody has; a direct call of another function is less likely than other calls, and
@@ -135,7 +136,7 @@ fn by_finding<U: BacktraceUnwinder, M: CodeMemory, S: UnwindContextStorage>(
     ensures ended { IfOk result (λ moved. OnErr moved (frame.new ≡ frame.old)) }
 {
     match finding {
-        RowFinding::Row(section) => Ok(by_row::<U, M, S>(alloc, section, row, memory, frame)),
+        RowFinding::Row(section) => Ok(by_row_or_run(alloc, unwinder, section, row, memory, frame)),
         RowFinding::Uncovered => by_run_or_start(unwinder, cache, memory, frame),
         RowFinding::NoRow => without_row(unwinder, cache, memory, frame),
     }
@@ -163,6 +164,53 @@ fn by_signal<U: BacktraceUnwinder, M: CodeMemory>(
     frame.columns = columns;
     frame.found = FoundBy::Signal;
     Ok(())
+}
+
+/// Makes a frame its caller by a row, or by running its code where what the row needs isn't known.
+fn by_row_or_run<U: BacktraceUnwinder, M: CodeMemory, S: UnwindContextStorage>(
+    alloc: Global,
+    unwinder: &U,
+    section: &[u8],
+    row: &UnwindTableRow<S>,
+    memory: &M,
+    frame: &mut Frame<U::UnwindRegs>,
+) -> Result<(), BacktraceEnd>
+    ensures moved { moved_to result frame.new ≡ row_or
+        (by_run U.machine (M.code memory.now) (frame_view frame.old)
+        (run_source (M.memory memory.now) (M.code memory.now) (is_covered (U.unwinder_view unwinder.now).modules)))
+        (by_row_of U.machine (M.code memory.now) (M.memory memory.now) (frame_view frame.old) section.now row.now) }
+    ensures ended { OnErr result (frame.new ≡ frame.old) }
+{
+    match by_row::<U, M, S>(alloc, section, row, memory, frame) {
+        Ok(()) => Ok(()),
+        Err(end) => by_run_or_end(unwinder, memory, frame, end),
+    }
+}
+
+/// Makes a frame its caller by running its code, where its row has no caller since what it needs isn't known, or returns
+/// that end.
+fn by_run_or_end<U: BacktraceUnwinder, M: CodeMemory>(
+    unwinder: &U,
+    memory: &M,
+    frame: &mut Frame<U::UnwindRegs>,
+    end: BacktraceEnd,
+) -> Result<(), BacktraceEnd>
+    ensures moved { moved_to result frame.new ≡ row_or
+        (by_run U.machine (M.code memory.now) (frame_view frame.old)
+        (run_source (M.memory memory.now) (M.code memory.now) (is_covered (U.unwinder_view unwinder.now).modules)))
+        (Err end) }
+    ensures ended { OnErr result (frame.new ≡ frame.old) }
+{
+    if !is_unknown(end) {
+        return Err(end);
+    }
+    match by_run::<U, M>(unwinder, memory, frame) {
+        Some(caller) => {
+            *frame = caller;
+            Ok(())
+        }
+        None => Err(end),
+    }
 }
 
 /// Makes a frame its caller by a row.

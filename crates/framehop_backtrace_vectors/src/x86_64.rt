@@ -248,6 +248,40 @@ fn runs_code_in_no_fde(rt: HostRuntime) -> Result<(), Fail> {
     Ok(())
 }
 
+/// Code in the middle of the first FDE's function: mov rsp, rbp; pop rbp; ret. Before the caller a call of *%rax.
+const CODE_OF_ANOTHER_STACK: [(usize, &[u8]); 2] = [
+    (0x04, &[0x48, 0x89, 0xec, 0x5d, 0xc3]),
+    (0x2e, &[0xff, 0xd0]),
+];
+
+/// The stack to which rbp leads, with a saved rbp and a return address. That of rsp, 0x9000, can't be read.
+const WORDS_OF_ANOTHER_STACK: [(u64, u64); 3] = [
+    (0x7100, 0x7ff0),
+    (0x7108, 0x401030),
+    (0x7110 + 24, 0x401090),
+];
+
+/// What is known of the caller.
+const KNOWN_BY_ANOTHER_STACK: [ColumnRow; 3] = [
+    (1, 6, Some(0x7ff0)),
+    (1, 7, Some(0x7110)),
+    (1, 16, Some(0x401030)),
+];
+
+#[test]
+fn runs_code_whose_row_is_not_known(rt: HostRuntime) -> Result<(), Fail> {
+    let unwinder = unwinder(rt.alloc())?;
+    let file = file_of(&CODE_OF_ANOTHER_STACK, &WORDS_OF_ANOTHER_STACK);
+    let memory = dump_of(rt.alloc(), &file, CODE_SIZE)?;
+    let regs = UnwindRegsX86_64::new(0x401004, 0x9000, 0x7100);
+    let rows = unwinder.inner();
+    let found = backtrace_in(rt.alloc(), &unwinder, rows, &memory, regs, 10)?;
+    assert!(rt; frame_row(&found, 1) == Some((0x401030, true, FoundBy::Run)));
+    assert!(rt; has_columns(&found, &KNOWN_BY_ANOTHER_STACK));
+    assert!(rt; (found.end, found.frames.len()) == (BacktraceEnd::Root, 3));
+    Ok(())
+}
+
 /// Code of calls by their offsets. They end at 0x401010, 0x401020, 0x401030, 0x401040 and 0x401050.
 const CALLS: [(usize, &[u8]); 7] = [
     // call 0x4010c0, call 0x4010d0
