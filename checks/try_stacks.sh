@@ -277,6 +277,10 @@ cat "$work/first" "$work/second" >"$work/both"
 printf '%s\n' 'app;[frame-pointer-0];app+0x1203;app+0x1128 2' >"$work/later"
 printf '%s\n' "$whole 1" 'app;[frame-pointer-0];app+0x1203;app+0x1128 2' >"$work/all"
 printf '%s\n' 'app-200/200;[frame-pointer-0];app+0x1203;app+0x1124 1' 'other-200/200;[frame-pointer-0];other+0x203;[unknown] 1' >"$work/threads"
+# what calls what in checks/stacks/uncovered.s; in mix the word at rsp + 40 of a sample's copy is in odd or in work
+printf 'uncovered;_start;run;%s\n' 'aligned 10' 'odd;mix 11' 'work;mix 12' >"$work/uncovered.folded"
+printf '%s\n' '33 samples, 0 records lost by the kernel' '0 samples with frames that no unwind data tells' \
+    'how the stacks ended:' 'root 33' >"$work/uncovered.summary"
 printf '%s\n' 'other;[frame-pointer-0];other+0x203;[unknown] 1' >"$work/other.folded"
 printf '\037\213\010' >"$work/gzip.data"
 mkdir -p "$work/mixed" && printf 'PERF\0' >"$work/mixed/a.data" && cp "$made/events.data" "$work/mixed/b.data" || exit 1
@@ -287,6 +291,7 @@ for program in "$@"; do
     program=$(realpath -- "$program")
     try 0 "$checks/stacks/tiny.frames" "$work/tiny.summary" --root . --frames tiny.data
     try 0 "$checks/stacks/tiny.limit" "$work/limit.summary" --root . --limit 3 tiny.data
+    try 0 "$work/uncovered.folded" "$work/uncovered.summary" --root . uncovered.data
     try 0 "$checks/stacks/crash.stacks" any --root . crash.core
     try 0 "$checks/stacks/crash.missing" any --root srv crash.core
     try 0 "$checks/stacks/crash.stacks" any --root srv --root . crash.core
