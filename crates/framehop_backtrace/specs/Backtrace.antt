@@ -94,18 +94,30 @@ returned_as machine code frame address columns = arrived code address (record {
   found = Cfi;
 })
 
-abbrev pub by_row_step : {Regs : Type 0} → Machine Regs → Code → FrameView Regs → Source → Row
+-- what a run reads: the memory, the code, and which functions unwind data covers
+abbrev pub run_source : Memory → Code → (ℕ → Bool) → RunSource
+run_source memory code covers = record { memory = memory; code = code_at code; is_covered = covers }
+
+-- the columns of a caller by a row: of a frame that is no caller itself with the registers that it has restored
+abbrev pub restored_columns : {Regs : Type 0} → Machine Regs → RunSource → FrameView Regs → List (Option ℕ) → List (Option ℕ)
+restored_columns machine run frame columns =
+    if is_first_frame frame.location then machine.restored run (address_of frame.location) frame.columns columns
+    else columns
+
+abbrev pub by_row_step : {Regs : Type 0} → Machine Regs → Code → RunSource → FrameView Regs → Source → Row
     → Result (ℕ × ℕ) RowRefusal → Next Regs
-by_row_step machine code frame source row (Ok step) =
+by_row_step machine code run frame source row (Ok step) =
     returned_as machine code frame (machine.strip frame.regs step.1)
     (returned_to machine.convention (machine.strip frame.regs) (machine.strip frame.regs step.1)
-    (columns_by (caller_column machine.convention source row step.0)))
-by_row_step machine code frame source row (Err error) = Err (end_of_refusal error)
+    (restored_columns machine run frame (columns_by (caller_column machine.convention source row step.0))))
+by_row_step machine code run frame source row (Err error) = Err (end_of_refusal error)
 
 -- by a row, over all registers that are known
-abbrev pub by_row_of : {Regs : Type 0} → Machine Regs → Code → Memory → FrameView Regs → List ℕ → Row → Next Regs
-by_row_of machine code memory frame section row =
-    by_row_step machine code frame (record { bytes = section; words = frame.columns; memory = memory }) row
+abbrev pub by_row_of : {Regs : Type 0} → Machine Regs → Code → Memory → (ℕ → Bool) → FrameView Regs → List ℕ → Row
+    → Next Regs
+by_row_of machine code memory covers frame section row =
+    by_row_step machine code (run_source memory code covers) frame
+    (record { bytes = section; words = frame.columns; memory = memory }) row
     (step_of machine.convention (record { bytes = section; words = frame.columns; memory = memory }) row)
 
 -- the end of a stack that a step finds
@@ -197,10 +209,6 @@ module _ {Regs : Type 0} (machine : Machine Regs) (code : Code) (frame : FrameVi
       if is_outside_code code frame.location then by_guess start fallback
       else by_library (if by_info then Cfi else FramePointer) outcome
 
--- what a run reads: the memory, the code, and which functions unwind data covers
-abbrev pub run_source : Memory → Code → (ℕ → Bool) → RunSource
-run_source memory code covers = record { memory = memory; code = code_at code; is_covered = covers }
-
 -- the frame of a caller that a run has found
 abbrev pub run_to : {Regs : Type 0} → Machine Regs → FrameView Regs → RunCaller → FrameView Regs
 run_to machine frame caller = record {
@@ -275,7 +283,7 @@ module _ {Regs : Type 0} (stack : Stack Regs) (frame : FrameView Regs) where
   abbrev pub by_finding : Finding → Next Regs
   by_finding (by_row section row) =
       row_or (by_run stack.machine stack.code frame (run_source stack.memory stack.code stack.covers))
-      (by_row_of stack.machine stack.code stack.memory frame section row)
+      (by_row_of stack.machine stack.code stack.memory stack.covers frame section row)
   by_finding uncovered =
       caller_or (by_run stack.machine stack.code frame (run_source stack.memory stack.code stack.covers))
       (by_start stack.machine stack.code frame (stack.step frame.location frame.regs stack.memory)

@@ -9,4 +9,5 @@ pub mod Info
 pub mod Kept
 pub mod Library
 pub mod Machine
+pub mod Restored
 pub mod Rows

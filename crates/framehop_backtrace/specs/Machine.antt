@@ -24,6 +24,7 @@ use Rattle.framehop_runs.specs.declared.run.RunCaller.{RunCaller}
 use Rattle.framehop_signal.specs.Frame.{interrupted_x86_64}
 use Rattle.framehop_backtrace.specs.Call.{is_after_call_x86_64, is_after_call_aarch64, call_target_x86_64, call_target_aarch64}
 use Rattle.framehop_backtrace.specs.Columns.{columns_by, column, with_column}
+use Rattle.framehop_backtrace.specs.Restored.{with_restored}
 
 -- `strip`: a pointer to code without its pointer authentication bits, by the mask of the registers. `columns`: what the
 -- library's step to an address leaves exactly. `merged`: the library's registers with the columns that are known.
@@ -32,6 +33,7 @@ use Rattle.framehop_backtrace.specs.Columns.{columns_by, column, with_column}
 -- lies right after a call, by the bytes of code. `call_target`: where that call leads, if it is a direct one.
 -- `frame_pointer`: its column. `fallback`: the step by the frame pointer, of a first frame (`true`) or another. `start`: that of a first frame at the
 -- first instruction of a function. `run`: the caller of a frame by running its code from an address on over its columns.
+-- `restored`: a caller's columns by a row, with those that a run of the code from there tells.
 pub record Machine (Regs : Type 0) : Type 0 where
   pub convention : Convention
   pub strip : Regs → ℕ → ℕ
@@ -46,6 +48,7 @@ pub record Machine (Regs : Type 0) : Type 0 where
   pub fallback : Bool → Regs → Memory → Outcome Regs
   pub start : Regs → Memory → Outcome Regs
   pub run : RunSource → ℕ → List (Option ℕ) → Option RunCaller
+  pub restored : RunSource → ℕ → List (Option ℕ) → List (Option ℕ) → List (Option ℕ)
 
 -- ---- x86_64
 
@@ -123,6 +126,7 @@ machine_x86_64 = record {
   fallback = outcome_x86_64 UseFramePointerX86_64;
   start = outcome_x86_64 JustReturn true;
   run = caller_by_runs;
+  restored = with_restored;
 }
 
 -- ---- aarch64
@@ -168,4 +172,5 @@ machine_aarch64 = record {
   fallback = outcome_aarch64 UseFramePointerAarch64;
   start = outcome_aarch64 NoOp true;
   run = λ source address columns. None;
+  restored = λ source address registers columns. columns;
 }

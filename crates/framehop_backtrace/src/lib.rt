@@ -12,6 +12,9 @@
 //! - A guess is only made at a first frame, since the rule of a function's start follows the frame
 //!   pointer at others. Its return address and that of the frame pointer are compared by the calls
 //!   before them. Code that nobody has, as of a JIT compiler, may have a call.
+//! - What a row leaves unknown of the registers that a function restores, since their words can't be
+//!   read, is taken from a run of the code to its return, where that comes to the row's caller: after
+//!   a `pop` a row has the register in the word below the stack pointer still.
 //! - A return address is in code if the byte before it is, or it itself, as that of a trampoline at
 //!   the beginning of a mapping.
 //! - Rows come from a trait (`Rows`), so that call frames that the library leaves out can be a
@@ -31,6 +34,7 @@ pub mod machine;
 pub mod memory;
 pub mod next;
 pub mod rows;
+mod restored;
 mod run;
 pub mod step;
 pub mod walk;

@@ -94,6 +94,17 @@ pub trait BacktraceUnwinder: Unwinder {
         ensures { result ≡ machine.run (record { memory = M.WordMemory.memory memory.now; code = M.code memory.now; is_covered = M.covers memory.now })
             address columns.now };
 
+    /// Returns the caller's registers by a row, with those that the row leaves unknown although a function restores them, by
+    /// running the frame's code from an address (AVMA) on, over its registers. Of aarch64 they are as they were.
+    fn with_restored<M: RunMemory>(
+        memory: &M,
+        address: u64,
+        registers: &RegisterFile,
+        caller: &RegisterFile,
+    ) -> RegisterFile
+        ensures { result ≡ machine.restored (record { memory = M.WordMemory.memory memory.now; code = M.code memory.now; is_covered = M.covers memory.now })
+            address registers.now caller.now };
+
     /// Returns whether PE or compact unwind info unwinds a frame.
     fn is_by_info<M: WordMemory>(
         &self,

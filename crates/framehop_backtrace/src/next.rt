@@ -9,7 +9,7 @@ ghost use Rattle.framehop_backtrace.specs.Rows.{Finding, IsRow, finding_of};
 ghost use Rattle.framehop_backtrace.specs.Kept.{AreFound, kept_rows};
 ghost use Rattle.framehop_backtrace.specs.Columns.{returned_to};
 ghost use Rattle.framehop_backtrace.specs.Covers.{is_covered};
-ghost use Rattle.framehop_backtrace.specs.Backtrace.{frame_view, moved_to, by_signal, by_row_of, returned_as, stepped, is_by_frame_pointer, has_no_frame_pointer, end_of_error, end_without_caller, guessed, by_library, by_guess, by_start, without_row, run_source, by_run, caller_or, row_or, by_finding, stack_of, next_of};
+ghost use Rattle.framehop_backtrace.specs.Backtrace.{frame_view, moved_to, by_signal, by_row_of, restored_columns, returned_as, stepped, is_by_frame_pointer, has_no_frame_pointer, end_of_error, end_without_caller, guessed, by_library, by_guess, by_start, without_row, run_source, by_run, caller_or, row_or, by_finding, stack_of, next_of};
 
 use crate::frame::{BacktraceEnd, FoundBy, Frame, end_of_refusal, is_unknown, root_of};
 use crate::guess::{Evidence, evidence_of};
@@ -17,7 +17,7 @@ use crate::kept::{FoundRow, RowRoom};
 use crate::machine::{BacktraceUnwinder, known_or};
 use crate::memory::{CodeMemory, is_in_code, is_in_trampoline, is_outside_code};
 use crate::rows::{RowFinding, Rows};
-use crate::run::by_run;
+use crate::run::{ProcessCode, by_run};
 use crate::step::step;
 use framehop_cfi::context::UnwindContext;
 use framehop_cfi::row::UnwindTableRow;
@@ -30,7 +30,10 @@ use std::alloc::{AllocError, Global};
 /// Makes a frame its caller, or returns how the stack ends there. At an end the frame is as it was.
 ///
 /// 1. A frame in a trampoline, to which the handler of a signal returns, has the interrupted code as its caller.
-/// 2. A frame for which the modules have a row has its caller by that, over all registers that are known.
+/// 2. A frame for which the modules have a row has its caller by that, over all registers that are known. What the row
+///    leaves unknown of the registers that the function restores, since a word can't be read, is taken from running its
+///    code, where that comes to the same return address and stack pointer: after a `pop` the word is below the stack
+///    pointer.
 /// 3. A frame of x86_64 that call frames of its module do not cover, or whose row needs a register or a word that isn't
 ///    known, has its caller by running its code, if that returns to an address right after a call, or after code that
 ///    nobody has.
@@ -178,10 +181,11 @@ fn by_row_or_run<U: BacktraceUnwinder, M: CodeMemory, S: UnwindContextStorage>(
     ensures moved { moved_to result frame.new ≡ row_or
         (by_run U.machine (M.code memory.now) (frame_view frame.old)
         (run_source (M.memory memory.now) (M.code memory.now) (is_covered (U.unwinder_view unwinder.now).modules)))
-        (by_row_of U.machine (M.code memory.now) (M.memory memory.now) (frame_view frame.old) section.now row.now) }
+        (by_row_of U.machine (M.code memory.now) (M.memory memory.now) (is_covered (U.unwinder_view unwinder.now).modules)
+        (frame_view frame.old) section.now row.now) }
     ensures ended { OnErr result (frame.new ≡ frame.old) }
 {
-    match by_row::<U, M, S>(alloc, section, row, memory, frame) {
+    match by_row::<U, M, S>(alloc, unwinder, section, row, memory, frame) {
         Ok(()) => Ok(()),
         Err(end) => by_run_or_end(unwinder, memory, frame, end),
     }
@@ -216,25 +220,45 @@ fn by_run_or_end<U: BacktraceUnwinder, M: CodeMemory>(
 /// Makes a frame its caller by a row.
 fn by_row<U: BacktraceUnwinder, M: CodeMemory, S: UnwindContextStorage>(
     alloc: Global,
+    unwinder: &U,
     section: &[u8],
     row: &UnwindTableRow<S>,
     memory: &M,
     frame: &mut Frame<U::UnwindRegs>,
 ) -> Result<(), BacktraceEnd>
     ensures moved { moved_to result frame.new
-        ≡ by_row_of U.machine (M.code memory.now) (M.memory memory.now) (frame_view frame.old) section.now row.now }
+        ≡ by_row_of U.machine (M.code memory.now) (M.memory memory.now) (is_covered (U.unwinder_view unwinder.now).modules)
+        (frame_view frame.old) section.now row.now }
     ensures ended { OnErr result (frame.new ≡ frame.old) }
 {
     let convention = U::convention();
     match caller_by_row(alloc, convention, section, row, &frame.columns, memory) {
         Ok(caller) => {
             let address = U::strip(&frame.regs, caller.return_address);
-            let mut columns = caller.regs;
+            let mut columns = restored_columns::<U, M>(unwinder, memory, frame, &caller.regs);
             return_to::<U>(&frame.regs, address, &mut columns);
             returned_as::<U, M>(memory, frame, address, &columns)
         }
         Err(refusal) => Err(end_of_refusal(refusal)),
     }
+}
+
+/// Returns the columns of a caller by a row: of a frame that is no caller itself with the registers that it has restored.
+fn restored_columns<U: BacktraceUnwinder, M: CodeMemory>(
+    unwinder: &U,
+    memory: &M,
+    frame: &Frame<U::UnwindRegs>,
+    columns: &RegisterFile,
+) -> RegisterFile
+    ensures { result ≡ restored_columns U.machine
+        (run_source (M.memory memory.now) (M.code memory.now) (is_covered (U.unwinder_view unwinder.now).modules))
+        (frame_view frame.now) columns.now }
+{
+    if frame.address.is_return_address() {
+        return *columns;
+    }
+    let process = ProcessCode { unwinder, memory };
+    U::with_restored(&process, frame.address.address(), &frame.columns, columns)
 }
 
 /// Makes a frame its caller at a stripped return address (AVMA), with these columns.
