@@ -1,6 +1,6 @@
 //! The instructions of aarch64.
 ghost use Rattle.std.specs.Prelude.{◌≡◌, ◌+◌, ◌<◌, ◌≤◌, pos, length, IfSome};
-ghost use Rattle.framehop_code.specs.Aarch64.Instruction.{instruction_at, base_numbered};
+ghost use Rattle.framehop_code.specs.Aarch64.Instruction.{instruction_at, base_numbered, base_name};
 ghost use Rattle.framehop_cfi.specs.Aarch64 as columns;
 
 pub mod encoding;
@@ -23,6 +23,8 @@ impl Code for CodeAarch64 {
     ghost entry = { pos 0 };
 
     ghost return_column = { columns.X30 };
+
+    ghost named = { base_name };
 
     fn effect_at(code: &[u8], at: usize) -> Option<Effect> {
         read_instruction(code, at)

@@ -68,6 +68,9 @@ pub trait Code {
     /// The number of the return address in DWARF.
     ghost return_column: { ℕ };
 
+    /// The name of a register in assembly.
+    ghost named: { Base → List ℕ };
+
     /// Returns the instruction at an offset of code, or `None` where the bytes end or none is recognised.
     fn effect_at(code: &[u8], at: usize) -> Option<Effect>
         ensures exact { result ≡ instruction code.now at }
@@ -86,7 +89,8 @@ pub trait Code {
         ensures { result ≡ return_column };
 
     /// Returns the name of a register in assembly.
-    fn name_of(base: Base) -> &'static str;
+    fn name_of(base: Base) -> &'static str
+        ensures { result.now ≡ named base };
 }
 
 /// Returns the effect of an instruction of so many bytes that changes neither register and leads to the next one.

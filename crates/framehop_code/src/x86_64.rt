@@ -1,6 +1,6 @@
 //! The instructions of x86_64.
 ghost use Rattle.std.specs.Prelude.{◌≡◌, ◌+◌, ◌<◌, ◌≤◌, pos, length, IfSome};
-ghost use Rattle.framehop_code.specs.X86_64.Instruction.{instruction_at, base_numbered};
+ghost use Rattle.framehop_code.specs.X86_64.Instruction.{instruction_at, base_numbered, base_name};
 ghost use Rattle.framehop_cfi.specs.X86_64 as columns;
 
 pub mod action;
@@ -27,6 +27,8 @@ impl Code for CodeX86_64 {
     ghost entry = { pos 8 };
 
     ghost return_column = { columns.RA };
+
+    ghost named = { base_name };
 
     fn effect_at(code: &[u8], at: usize) -> Option<Effect> {
         read_instruction(code, at)

@@ -1,6 +1,6 @@
 -- What an aarch64 instruction does to sp and x29, and where it leads, by its word (Arm Architecture Reference Manual for
 -- A-profile, "A64 base instruction descriptions").
-use Rattle.std.specs.Prelude.{ℕ, ◌*◌, ◌==◌, nat_lt, if◌then◌else◌, List, [], ◌∷◌, Option, Some, None, Ok, Err, ℤ, pos, ◌-ℤ◌, ◌*ℤ◌}
+use Rattle.std.specs.Prelude.{ℕ, ◌*◌, ◌==◌, nat_lt, if◌then◌else◌, List, [], ◌∷◌, Option, Some, None, Ok, Err, ℤ, pos, ◌-ℤ◌, ◌*ℤ◌, codes}
 use Rattle.framehop_core.specs.Bits.{bits_at}
 use Rattle.framehop_cfi.specs.Numbers.{Parsed, u32_at}
 use Rattle.framehop_cfi.specs.Aarch64.{X29, SP}
@@ -24,6 +24,11 @@ numbered number = if number == 31 then Some Sp else (if number == 29 then Some F
 -- the register that a number names in DWARF
 abbrev pub base_numbered : ℕ → Option Base
 base_numbered number = if number == SP then Some Sp else (if number == X29 then Some Fp else None)
+
+-- its name in assembly
+abbrev pub base_name : Base → List ℕ
+base_name Sp = codes "sp"
+base_name Fp = codes "x29"
 
 -- ---- fields
 

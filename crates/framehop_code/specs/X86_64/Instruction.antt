@@ -1,6 +1,6 @@
 -- The instruction at an offset of code: prefixes, opcode, ModRM byte, SIB byte, displacement and immediate operand (Intel 64
 -- and IA-32 Architectures Software Developer's Manual, volume 2, chapter 2, "Instruction format").
-use Rattle.std.specs.Prelude.{ℕ, ◌+◌, ◌-◌, ◌*◌, ◌/◌, ◌%◌, ◌^◌, Bool, true, false, not, ◌==◌, ◌&&◌, ◌||◌, nat_le, nat_lt, if◌then◌else◌, List, [], ◌∷◌, length, take, drop, position, slice_get, Option, Some, None, Result, Ok, Err, ℤ, pos}
+use Rattle.std.specs.Prelude.{ℕ, ◌+◌, ◌-◌, ◌*◌, ◌/◌, ◌%◌, ◌^◌, Bool, true, false, not, ◌==◌, ◌&&◌, ◌||◌, nat_le, nat_lt, if◌then◌else◌, List, [], ◌∷◌, length, codes, take, drop, position, slice_get, Option, Some, None, Result, Ok, Err, ℤ, pos}
 use Rattle.std.specs.List.{list_any}
 use Rattle.std.specs.Int.{cast_signed, w8, w16, w32}
 use Rattle.framehop_bytes.specs.Bytes.{◌>>=◌}
@@ -30,6 +30,11 @@ use Rattle.framehop_code.specs.X86_64.Operation.{effect_of}
 -- the register that a number names in DWARF
 abbrev pub base_numbered : ℕ → Option Base
 base_numbered number = if number == RSP then Some Sp else (if number == RBP then Some Fp else None)
+
+-- its name in assembly
+abbrev pub base_name : Base → List ℕ
+base_name Sp = codes "rsp"
+base_name Fp = codes "rbp"
 
 -- ---- prefixes
 
