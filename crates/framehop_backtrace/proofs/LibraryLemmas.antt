@@ -1,5 +1,5 @@
 -- Where a backtrace is the library's walk.
-use Rattle.std.proofs.Common.{◌≡◌, ℕ, zero, suc, ◌∷◌, [], Bool, true, false, map, Ok, Err, refl, ap, sym, ◌∙◌, inl, inr, subst, ◌⊎◌, ◌==◌, ◌&&◌, if◌then◌else◌}
+use Rattle.std.proofs.Common.{◌≡◌, ℕ, zero, suc, ◌∷◌, [], Bool, true, false, map, Option, Some, None, Ok, Err, refl, ap, sym, ◌∙◌, inl, inr, subst, ◌⊎◌, ◌==◌, ◌&&◌, if◌then◌else◌}
 use Rattle.std.proofs.lemmas.Bool.{true≢false}
 use Rattle.framehop_core.specs.CodeAddress.{FrameLocation, at_instruction_pointer, at_return_address}
 use Rattle.framehop_core.specs.Outcome.{Outcome, answered, root, refused}
@@ -41,32 +41,33 @@ module _ {Regs : Type 0} (stack : Stack Regs)
   abbrev steps : FrameLocation → Regs → Outcome Regs
   steps location regs = stack.step location regs stack.memory
 
-  next-by : (frame : FrameView Regs) (finding : Finding) → IsWithoutRow stack frame.location finding
+  next-by : (callee : Option (FrameView Regs)) (frame : FrameView Regs) (finding : Finding) → IsWithoutRow stack frame.location finding
       → stack.machine.can_step frame.columns ≡ true → (found : FoundBy)
-      × (by_finding stack frame finding ≡ stepped_by stack.machine stack.code found frame (steps frame.location frame.regs))
-  next-by frame no_row without known =
+      × (by_finding stack callee frame finding ≡ stepped_by stack.machine stack.code found frame (steps frame.location frame.regs))
+  next-by callee frame no_row without known =
       (if stack.is_by_info frame.location frame.regs stack.memory then Cfi else FramePointer, rw without (rw known refl))
-  next-by frame uncovered without known = (FramePointer, rw (without.1 frame.columns) (rw without.0 (rw known refl)))
-  next-by frame (by_row section row) without known = absurd without
+  next-by callee frame uncovered without known = (FramePointer, rw (without.1 frame.columns) (rw without.0 (rw known refl)))
+  next-by callee frame (by_row section row) without known = absurd without
 
-  next-of : (frame : FrameView Regs) → is_in_trampoline stack.code frame.location ≡ false
-      → next_of stack frame ≡ by_finding stack frame (stack.rows frame.location)
+  next-of : (callee : Option (FrameView Regs)) (frame : FrameView Regs) → is_in_trampoline stack.code frame.location ≡ false
+      → next_of stack callee frame ≡ by_finding stack callee frame (stack.rows frame.location)
   unfolding next_of
-  next-of frame apart = rw apart refl
+  next-of callee frame apart = rw apart refl
 
   walk-suc : (n : ℕ) (location : FrameLocation) (regs : Regs)
       → callers steps (suc n) location regs ≡ onward (callers steps n) regs (steps location regs)
   unfolding callers
   walk-suc n location regs = refl
 
-  stack-suc : (n : ℕ) (frame : FrameView Regs)
-      → callers_of stack (suc n) frame ≡ further (callers_of stack n) (next_of stack frame)
+  stack-suc : (n : ℕ) (callee : Option (FrameView Regs)) (frame : FrameView Regs)
+      → callers_of stack (suc n) callee frame ≡ further (callers_of stack n (Some frame)) (next_of stack callee frame)
   unfolding callers_of
-  stack-suc n frame = refl
+  stack-suc n callee frame = refl
 
-  none-is : (frame : FrameView Regs) → IsWalk (callers steps zero frame.location frame.regs) (callers_of stack zero frame)
+  none-is : (callee : Option (FrameView Regs)) (frame : FrameView Regs)
+      → IsWalk (callers steps zero frame.location frame.regs) (callers_of stack zero callee frame)
   unfolding callers callers_of
-  none-is frame = record { frames = refl; end = refl }
+  none-is callee frame = record { frames = refl; end = refl }
 
   before-is : (location : FrameLocation) (frame : FrameView Regs) (walk : Walk Regs) (rest : Backtrace Regs)
       → frame.location ≡ location → IsWalk walk rest
@@ -76,40 +77,40 @@ module _ {Regs : Type 0} (stack : Stack Regs)
     end = is.end;
   }
 
-  arrived-in : (n : ℕ) → ((frame : FrameView Regs) → IsPlain stack n frame.location frame.regs
+  arrived-in : (n : ℕ) → ((callee : Option (FrameView Regs)) (frame : FrameView Regs) → IsPlain stack n frame.location frame.regs
       → stack.machine.can_step frame.columns ≡ true
-      → IsWalk (callers steps n frame.location frame.regs) (callers_of stack n frame))
+      → IsWalk (callers steps n frame.location frame.regs) (callers_of stack n callee frame))
       → (found : FoundBy) (frame : FrameView Regs) (address : ℕ) (new : Regs)
       → (address ≡ 0) ⊎ ((is_in_code stack.code address ≡ true) × IsPlain stack n (at_return_address address) new)
       → (address == 0) ≡ false → (is_in_code stack.code address ≡ true)
       × IsWalk (frame_before (at_return_address address) (callers steps n (at_return_address address) new))
-      (further (callers_of stack n) (Ok (record { location = at_return_address address; columns = stack.machine.columns address new; regs = new; found = found })))
+      (further (callers_of stack n (Some frame)) (Ok (record { location = at_return_address address; columns = stack.machine.columns address new; regs = new; found = found })))
   arrived-in n go found frame address new (inl zero-is) some = absurd (true≢false (sym (ap (λ a. a == 0) zero-is) ∙ some))
   arrived-in n go found frame address new (inr plain) some =
       let next : FrameView Regs = record { location = at_return_address address; columns = stack.machine.columns address new; regs = new; found = found } in
-      (plain.0, before-is (at_return_address address) next _ _ refl (go next plain.1 (can address new)))
+      (plain.0, before-is (at_return_address address) next _ _ refl (go (Some frame) next plain.1 (can address new)))
 
-  after-is : (n : ℕ) → ((frame : FrameView Regs) → IsPlain stack n frame.location frame.regs
+  after-is : (n : ℕ) → ((callee : Option (FrameView Regs)) (frame : FrameView Regs) → IsPlain stack n frame.location frame.regs
       → stack.machine.can_step frame.columns ≡ true
-      → IsWalk (callers steps n frame.location frame.regs) (callers_of stack n frame))
+      → IsWalk (callers steps n frame.location frame.regs) (callers_of stack n callee frame))
       → (found : FoundBy) (frame : FrameView Regs) (outcome : Outcome Regs) → AfterStep stack (IsPlain stack n) outcome
       → IsWalk (onward (callers steps n) frame.regs outcome)
-      (further (callers_of stack n) (stepped_by stack.machine stack.code found frame outcome))
+      (further (callers_of stack n (Some frame)) (stepped_by stack.machine stack.code found frame outcome))
   after-is n go found frame (answered address new) plain =
-      answered-by (address == 0) (is_in_code stack.code address) _ _ (callers_of stack n) _ _ _
+      answered-by (address == 0) (is_in_code stack.code address) _ _ (callers_of stack n (Some frame)) _ _ _
       (record { frames = refl; end = inl refl }) (λ some. arrived-in n go found frame address new plain some)
   after-is n go found frame root plain = record { frames = refl; end = root-is found }
   after-is n go found frame (refused error) plain =
       record { frames = refl; end = error-is (is_by_frame_pointer found && has_no_frame_pointer stack.machine frame.columns) error }
 
-  callers-are : (n : ℕ) (frame : FrameView Regs) → IsPlain stack n frame.location frame.regs
-      → stack.machine.can_step frame.columns ≡ true
-      → IsWalk (callers steps n frame.location frame.regs) (callers_of stack n frame)
-  callers-are zero frame plain known = none-is frame
-  callers-are (suc n) frame plain known =
-      let next = next-by frame (stack.rows frame.location) plain.1 known in
+  callers-are : (n : ℕ) (callee : Option (FrameView Regs)) (frame : FrameView Regs)
+      → IsPlain stack n frame.location frame.regs → stack.machine.can_step frame.columns ≡ true
+      → IsWalk (callers steps n frame.location frame.regs) (callers_of stack n callee frame)
+  callers-are zero callee frame plain known = none-is callee frame
+  callers-are (suc n) callee frame plain known =
+      let next = next-by callee frame (stack.rows frame.location) plain.1 known in
       let there = after-is n (callers-are n) next.0 frame (steps frame.location frame.regs) plain.2 in
-      rw (walk-suc n frame.location frame.regs) (rw (stack-suc n frame ∙ ap (further (callers_of stack n)) (next-of frame plain.0 ∙ next.1)) there)
+      rw (walk-suc n frame.location frame.regs) (rw (stack-suc n callee frame ∙ ap (further (callers_of stack n (Some frame))) (next-of callee frame plain.0 ∙ next.1)) there)
 
   backtrace-is : (limit pc : ℕ) (frame : FrameView Regs) → frame.location ≡ at_instruction_pointer pc
       → IsPlainWalk stack limit frame.location frame.regs → stack.machine.can_step frame.columns ≡ true
@@ -118,7 +119,7 @@ module _ {Regs : Type 0} (stack : Stack Regs)
   backtrace-is zero pc frame here plain known = record { frames = refl; end = refl }
   backtrace-is (suc n) pc frame here plain known =
       before-is (at_instruction_pointer pc) frame _ _ here
-      (subst (λ location. IsWalk (callers steps n location frame.regs) (callers_of stack n frame)) here (callers-are n frame plain known))
+      (subst (λ location. IsWalk (callers steps n location frame.regs) (callers_of stack n None frame)) here (callers-are n None frame plain known))
 
   -- so is what is equal to that backtrace
   pub library-is : (limit : ℕ) (frame : FrameView Regs) (found : Backtrace Regs) → found ≡ backtrace_of stack limit frame

@@ -12,16 +12,16 @@ use Rattle.framehop_backtrace.specs.Machine.{Machine}
 use Rattle.framehop_backtrace.specs.Rows.{Finding}
 use Rattle.framehop_backtrace.specs.Backtrace.{FrameView, Stack, Next, next_of, by_signal, by_finding, by_row_of, by_row_step, restored_columns, returned_as, run_source}
 
-module _ {Regs : Type 0} (stack : Stack Regs) (frame : FrameView Regs) where
+module _ {Regs : Type 0} (stack : Stack Regs) (callee : Option (FrameView Regs)) (frame : FrameView Regs) where
   pub at-signal : is_in_trampoline stack.code frame.location ≡ true
-      → next_of stack frame ≡ by_signal stack.machine stack.code frame
+      → next_of stack callee frame ≡ by_signal stack.machine stack.code frame
   unfolding next_of
   at-signal here = rw here refl
 
   pub at-finding : (finding : Finding) → is_in_trampoline stack.code frame.location ≡ false
-      → finding ≡ stack.rows frame.location → next_of stack frame ≡ by_finding stack frame finding
+      → finding ≡ stack.rows frame.location → next_of stack callee frame ≡ by_finding stack callee frame finding
   unfolding next_of
-  at-finding finding apart is = rw apart (ap (by_finding stack frame) (sym is))
+  at-finding finding apart is = rw apart (ap (by_finding stack callee frame) (sym is))
 
 module _ {Regs : Type 0} (machine : Machine Regs) (code : Code) (memory : Memory) (covers : ℕ → Bool) (frame : FrameView Regs) (section : List ℕ) (row : Row) where
   abbrev source : Source

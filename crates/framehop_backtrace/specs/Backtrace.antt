@@ -249,10 +249,21 @@ is_unknown (Refused error) = false
 is_unknown NoCaller = false
 is_unknown (NotCode address) = false
 
--- by a row, or where what it needs is not known by a run
-abbrev pub row_or : {Regs : Type 0} → Option (FrameView Regs) → Next Regs → Next Regs
-row_or run (Ok frame) = Ok frame
-row_or run (Err end) = if is_unknown end then caller_or run (Err end) else Err end
+-- a frame with the registers that a run of its callee's code knows, where that comes to the frame
+abbrev pub completed : {Regs : Type 0} → Machine Regs → RunSource → Option (FrameView Regs) → FrameView Regs → FrameView Regs
+completed machine run None frame = frame
+completed machine run (Some callee) frame =
+    record frame { columns = machine.completed run (address_of callee.location) callee.columns frame.columns }
+
+-- a caller, or else another
+abbrev pub found_or : {Regs : Type 0} → Next Regs → Next Regs → Next Regs
+found_or (Ok frame) other = Ok frame
+found_or (Err end) other = other
+
+-- by a row, or where what it needs is not known by the row over more registers, or else by a run
+abbrev pub row_or : {Regs : Type 0} → Next Regs → Option (FrameView Regs) → Next Regs → Next Regs
+row_or again run (Ok frame) = Ok frame
+row_or again run (Err end) = if is_unknown end then found_or again (caller_or run (Err end)) else Err end
 
 -- a stack: its machine; what a step of the library does, and whether PE or compact unwind info unwinds a frame; the
 -- rows of the modules, and which functions their unwind data covers; the memory and the code
@@ -278,11 +289,15 @@ stack_of machine step is_by_info rows covers memory code = record {
   code = code;
 }
 
-module _ {Regs : Type 0} (stack : Stack Regs) (frame : FrameView Regs) where
+-- a frame whose callee is known, if it has one
+module _ {Regs : Type 0} (stack : Stack Regs) (callee : Option (FrameView Regs)) (frame : FrameView Regs) where
   -- by what the modules have for the frame
   abbrev pub by_finding : Finding → Next Regs
   by_finding (by_row section row) =
-      row_or (by_run stack.machine stack.code frame (run_source stack.memory stack.code stack.covers))
+      row_or
+      (by_row_of stack.machine stack.code stack.memory stack.covers
+      (completed stack.machine (run_source stack.memory stack.code stack.covers) callee frame) section row)
+      (by_run stack.machine stack.code frame (run_source stack.memory stack.code stack.covers))
       (by_row_of stack.machine stack.code stack.memory stack.covers frame section row)
   by_finding uncovered =
       caller_or (by_run stack.machine stack.code frame (run_source stack.memory stack.code stack.covers))
@@ -319,11 +334,11 @@ onward callers (Ok frame) = frame_before frame (callers frame)
 onward callers (Err end) = record { frames = []; end = end }
 
 -- the callers of a frame, at most so many
-unfoldable pub callers_of : {Regs : Type 0} → Stack Regs → ℕ → FrameView Regs → Backtrace Regs
-callers_of stack zero frame = record { frames = []; end = Limit }
-callers_of stack (suc n) frame = onward (callers_of stack n) (next_of stack frame)
+unfoldable pub callers_of : {Regs : Type 0} → Stack Regs → ℕ → Option (FrameView Regs) → FrameView Regs → Backtrace Regs
+callers_of stack zero callee frame = record { frames = []; end = Limit }
+callers_of stack (suc n) callee frame = onward (callers_of stack n (Some frame)) (next_of stack callee frame)
 
 -- the backtrace from a frame on, at most so many frames
 unfoldable pub backtrace_of : {Regs : Type 0} → Stack Regs → ℕ → FrameView Regs → Backtrace Regs
 backtrace_of stack zero frame = record { frames = []; end = Limit }
-backtrace_of stack (suc n) frame = frame_before frame (callers_of stack n frame)
+backtrace_of stack (suc n) frame = frame_before frame (callers_of stack n None frame)

@@ -24,7 +24,7 @@ use Rattle.framehop_runs.specs.declared.run.RunCaller.{RunCaller}
 use Rattle.framehop_signal.specs.Frame.{interrupted_x86_64}
 use Rattle.framehop_backtrace.specs.Call.{is_after_call_x86_64, is_after_call_aarch64, call_target_x86_64, call_target_aarch64}
 use Rattle.framehop_backtrace.specs.Columns.{columns_by, column, with_column}
-use Rattle.framehop_backtrace.specs.Restored.{with_restored}
+use Rattle.framehop_backtrace.specs.Restored.{with_restored, with_completed}
 
 -- `strip`: a pointer to code without its pointer authentication bits, by the mask of the registers. `columns`: what the
 -- library's step to an address leaves exactly. `merged`: the library's registers with the columns that are known.
@@ -33,7 +33,7 @@ use Rattle.framehop_backtrace.specs.Restored.{with_restored}
 -- lies right after a call, by the bytes of code. `call_target`: where that call leads, if it is a direct one.
 -- `frame_pointer`: its column. `fallback`: the step by the frame pointer, of a first frame (`true`) or another. `start`: that of a first frame at the
 -- first instruction of a function. `run`: the caller of a frame by running its code from an address on over its columns.
--- `restored`: a caller's columns by a row, with those that a run of the code from there tells.
+-- `restored`, `completed`: a caller's columns by a row, with those of a function's own, or all, that a run of the code from there tells.
 pub record Machine (Regs : Type 0) : Type 0 where
   pub convention : Convention
   pub strip : Regs → ℕ → ℕ
@@ -49,6 +49,7 @@ pub record Machine (Regs : Type 0) : Type 0 where
   pub start : Regs → Memory → Outcome Regs
   pub run : RunSource → ℕ → List (Option ℕ) → Option RunCaller
   pub restored : RunSource → ℕ → List (Option ℕ) → List (Option ℕ) → List (Option ℕ)
+  pub completed : RunSource → ℕ → List (Option ℕ) → List (Option ℕ) → List (Option ℕ)
 
 -- ---- x86_64
 
@@ -127,6 +128,7 @@ machine_x86_64 = record {
   start = outcome_x86_64 JustReturn true;
   run = caller_by_runs;
   restored = with_restored;
+  completed = with_completed;
 }
 
 -- ---- aarch64
@@ -173,4 +175,5 @@ machine_aarch64 = record {
   start = outcome_aarch64 NoOp true;
   run = λ source address columns. None;
   restored = λ source address registers columns. columns;
+  completed = λ source address registers columns. columns;
 }

@@ -42,3 +42,20 @@ restored_in columns None = columns
 abbrev pub with_restored : RunSource → ℕ → List (Option ℕ) → List (Option ℕ) → List (Option ℕ)
 with_restored source address registers columns =
     if knows_kept columns then columns else restored_in columns (caller_by_runs source address registers)
+
+-- ---- all that a run knows
+
+-- a caller's registers with what a run knows of those that are unknown
+abbrev pub completed_by : List (Option ℕ) → List (Option ℕ) → List (Option ℕ)
+completed_by run columns =
+    with_kept run 11 (with_kept run 10 (with_kept run 9 (with_kept run 8 (with_kept run 5 (with_kept run 4 (with_kept run 2
+    (with_kept run 1 (with_kept run 0 (restored_by run columns)))))))))
+
+abbrev pub completed_in : List (Option ℕ) → Option RunCaller → List (Option ℕ)
+completed_in columns (Some caller) = if comes_to columns caller.registers then completed_by caller.registers columns else columns
+completed_in columns None = columns
+
+-- A caller's registers, with all that is known of them where the frame's code, run from an address on over its
+-- registers, comes to this caller.
+abbrev pub with_completed : RunSource → ℕ → List (Option ℕ) → List (Option ℕ) → List (Option ℕ)
+with_completed source address registers columns = completed_in columns (caller_by_runs source address registers)

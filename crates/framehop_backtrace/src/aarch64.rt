@@ -125,6 +125,15 @@ impl<D: SectionBytes + Drop, P: AllocationPolicy> BacktraceUnwinder for Unwinder
         *caller
     }
 
+    fn with_completed<M: RunMemory>(
+        _memory: &M,
+        _address: u64,
+        _registers: &RegisterFile,
+        caller: &RegisterFile,
+    ) -> RegisterFile {
+        *caller
+    }
+
     fn is_by_info<M: WordMemory>(
         &self,
         address: FrameAddress,

@@ -105,6 +105,17 @@ pub trait BacktraceUnwinder: Unwinder {
         ensures { result ≡ machine.restored (record { memory = M.WordMemory.memory memory.now; code = M.code memory.now; is_covered = M.covers memory.now })
             address registers.now caller.now };
 
+    /// Returns the caller's registers, with all that is known of them where the frame's code, run from an address (AVMA) on
+    /// over its registers, comes to this caller. Of aarch64 they are as they were.
+    fn with_completed<M: RunMemory>(
+        memory: &M,
+        address: u64,
+        registers: &RegisterFile,
+        caller: &RegisterFile,
+    ) -> RegisterFile
+        ensures { result ≡ machine.completed (record { memory = M.WordMemory.memory memory.now; code = M.code memory.now; is_covered = M.covers memory.now })
+            address registers.now caller.now };
+
     /// Returns whether PE or compact unwind info unwinds a frame.
     fn is_by_info<M: WordMemory>(
         &self,

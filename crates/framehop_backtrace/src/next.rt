@@ -1,5 +1,5 @@
 //! The caller of a frame.
-ghost use Rattle.std.specs.Prelude.{◌≡◌, ◌≢◌, ◌⊎◌, None, IfOk, IfErr, OnErr, Err, MatchBool, true, length};
+ghost use Rattle.std.specs.Prelude.{◌≡◌, ◌≢◌, ◌⊎◌, None, option_map, IfOk, IfErr, OnErr, Err, MatchBool, true, length};
 ghost use Rattle.framehop_core.specs.CodeAddress.{FrameLocation, location_of, is_first_frame};
 ghost use Rattle.framehop_core.specs.Outcome.{HasDone};
 ghost use Rattle.framehop.specs.Modules.{UnwinderView};
@@ -9,7 +9,7 @@ ghost use Rattle.framehop_backtrace.specs.Rows.{Finding, IsRow, finding_of};
 ghost use Rattle.framehop_backtrace.specs.Kept.{AreFound, kept_rows};
 ghost use Rattle.framehop_backtrace.specs.Columns.{returned_to};
 ghost use Rattle.framehop_backtrace.specs.Covers.{is_covered};
-ghost use Rattle.framehop_backtrace.specs.Backtrace.{frame_view, moved_to, by_signal, by_row_of, restored_columns, returned_as, stepped, is_by_frame_pointer, has_no_frame_pointer, end_of_error, end_without_caller, guessed, by_library, by_guess, by_start, without_row, run_source, by_run, caller_or, row_or, by_finding, stack_of, next_of};
+ghost use Rattle.framehop_backtrace.specs.Backtrace.{frame_view, moved_to, by_signal, by_row_of, restored_columns, returned_as, stepped, is_by_frame_pointer, has_no_frame_pointer, end_of_error, end_without_caller, guessed, by_library, by_guess, by_start, without_row, run_source, by_run, caller_or, completed, row_or, by_finding, stack_of, next_of};
 
 use crate::frame::{BacktraceEnd, FoundBy, Frame, end_of_refusal, is_unknown, root_of};
 use crate::guess::{Evidence, evidence_of};
@@ -36,7 +36,7 @@ use std::alloc::{AllocError, Global};
 ///    pointer.
 /// 3. A frame of x86_64 that call frames of its module do not cover, or whose row needs a register or a word that isn't
 ///    known, has its caller by running its code, if that returns to an address right after a call, or after code that
-///    nobody has.
+///    nobody has. In a walk the row is first tried over the registers that a run of the callee's code knows.
 /// 4. Else the library's step is taken, over the registers that it has. The rule of a function's start is a guess: its
 ///    return address is compared with that of the frame pointer, and taken unless that is likelier. Either must lie right
 ///    after a call, or after code that nobody has; a direct call of another function is less likely than other calls, and
@@ -65,7 +65,7 @@ pub fn next_frame<U: BacktraceUnwinder, W: Rows, M: CodeMemory, S: UnwindContext
     ensures refused { IfErr result (λ _. (S.limits ≡ None) ⊎ U.may_run_out unwinder.now cache.old (location_of frame.old.address)) }
     ensures exact { U.is_sound (U.unwinder_view unwinder.now) cache.old → IfOk result (λ moved. moved_to moved frame.new
         ≡ next_of (stack_of U.machine (U.step unwinder.now) (U.is_by_info unwinder.now) (W.rows rows.now S.limits) (is_covered (U.unwinder_view unwinder.now).modules)
-        (M.memory memory.now) (M.code memory.now)) (frame_view frame.old)) }
+        (M.memory memory.now) (M.code memory.now)) None (frame_view frame.old)) }
     ensures unmoved { OnErr result (frame.new ≡ frame.old) }
     ensures ended { IfOk result (λ moved. OnErr moved (frame.new ≡ frame.old)) }
 {
@@ -74,10 +74,10 @@ pub fn next_frame<U: BacktraceUnwinder, W: Rows, M: CodeMemory, S: UnwindContext
     }
     let finding = rows.row_at(unwind_context, frame.address)?;
     let row = unwind_context.row();
-    by_finding(alloc, unwinder, finding, row, cache, memory, frame)
+    by_finding(alloc, unwinder, finding, row, cache, memory, None, frame)
 }
 
-/// Makes a frame its caller as [`next_frame`] does, in a walk that keeps what it finds.
+/// Makes a frame its caller as [`next_frame`] does, in a walk that keeps what it finds and knows the frame's callee.
 ///
 /// # Errors
 ///
@@ -90,6 +90,7 @@ pub(crate) fn next_kept_frame<'a, U, W, M, S>(
     found: &mut [Option<FoundRow<'a>>],
     cache: &mut U::Cache,
     memory: &M,
+    callee: Option<Frame<U::UnwindRegs>>,
     frame: &mut Frame<U::UnwindRegs>,
 ) -> Result<Result<(), BacktraceEnd>, AllocError>
 where
@@ -107,14 +108,14 @@ where
     ensures exact { AreFound (W.rows rows.entry.now S.limits) found.old room.old
         → U.is_sound (U.unwinder_view unwinder.now) cache.old → IfOk result (λ moved. moved_to moved frame.new
         ≡ next_of (stack_of U.machine (U.step unwinder.now) (U.is_by_info unwinder.now) (W.rows rows.entry.now S.limits) (is_covered (U.unwinder_view unwinder.now).modules)
-        (M.memory memory.now) (M.code memory.now)) (frame_view frame.old)) }
+        (M.memory memory.now) (M.code memory.now)) (option_map frame_view callee) (frame_view frame.old)) }
 {
     if is_in_trampoline(memory, frame.address) {
         return Ok(by_signal::<U, M>(memory, frame));
     }
     let (place, finding) = room.row_at(rows, found, frame.address)?;
     let row = room.row(place);
-    by_finding(alloc, unwinder, finding, row, cache, memory, frame)
+    by_finding(alloc, unwinder, finding, row, cache, memory, callee, frame)
 }
 
 /// Makes a frame its caller by what was found for it, with the row that it has if it is one.
@@ -125,6 +126,7 @@ fn by_finding<U: BacktraceUnwinder, M: CodeMemory, S: UnwindContextStorage>(
     row: &UnwindTableRow<S>,
     cache: &mut U::Cache,
     memory: &M,
+    callee: Option<Frame<U::UnwindRegs>>,
     frame: &mut Frame<U::UnwindRegs>,
 ) -> Result<Result<(), BacktraceEnd>, AllocError>
     ensures stays_sound { (other : UnwinderView) → AreApart (U.unwinder_view unwinder.now) other
@@ -134,12 +136,14 @@ fn by_finding<U: BacktraceUnwinder, M: CodeMemory, S: UnwindContextStorage>(
     ensures exact { (rows : FrameLocation → Finding) → U.is_sound (U.unwinder_view unwinder.now) cache.old
         → IfOk result (λ moved. moved_to moved frame.new
         ≡ by_finding (stack_of U.machine (U.step unwinder.now) (U.is_by_info unwinder.now) rows (is_covered (U.unwinder_view unwinder.now).modules)
-        (M.memory memory.now) (M.code memory.now)) (frame_view frame.old) (finding_of finding.entry row.now)) }
+        (M.memory memory.now) (M.code memory.now)) (option_map frame_view callee) (frame_view frame.old) (finding_of finding.entry row.now)) }
     ensures unmoved { OnErr result (frame.new ≡ frame.old) }
     ensures ended { IfOk result (λ moved. OnErr moved (frame.new ≡ frame.old)) }
 {
     match finding {
-        RowFinding::Row(section) => Ok(by_row_or_run(alloc, unwinder, section, row, memory, frame)),
+        RowFinding::Row(section) => Ok(by_row_or_run(
+            alloc, unwinder, section, row, memory, callee, frame,
+        )),
         RowFinding::Uncovered => by_run_or_start(unwinder, cache, memory, frame),
         RowFinding::NoRow => without_row(unwinder, cache, memory, frame),
     }
@@ -169,16 +173,21 @@ fn by_signal<U: BacktraceUnwinder, M: CodeMemory>(
     Ok(())
 }
 
-/// Makes a frame its caller by a row, or by running its code where what the row needs isn't known.
+/// Makes a frame its caller by a row. Where what that needs isn't known: by the row over what a run of the callee's code
+/// knows, or else by running the frame's code.
 fn by_row_or_run<U: BacktraceUnwinder, M: CodeMemory, S: UnwindContextStorage>(
     alloc: Global,
     unwinder: &U,
     section: &[u8],
     row: &UnwindTableRow<S>,
     memory: &M,
+    callee: Option<Frame<U::UnwindRegs>>,
     frame: &mut Frame<U::UnwindRegs>,
 ) -> Result<(), BacktraceEnd>
     ensures moved { moved_to result frame.new ≡ row_or
+        (by_row_of U.machine (M.code memory.now) (M.memory memory.now) (is_covered (U.unwinder_view unwinder.now).modules)
+        (completed U.machine (run_source (M.memory memory.now) (M.code memory.now) (is_covered (U.unwinder_view unwinder.now).modules))
+        (option_map frame_view callee) (frame_view frame.old)) section.now row.now)
         (by_run U.machine (M.code memory.now) (frame_view frame.old)
         (run_source (M.memory memory.now) (M.code memory.now) (is_covered (U.unwinder_view unwinder.now).modules)))
         (by_row_of U.machine (M.code memory.now) (M.memory memory.now) (is_covered (U.unwinder_view unwinder.now).modules)
@@ -187,19 +196,26 @@ fn by_row_or_run<U: BacktraceUnwinder, M: CodeMemory, S: UnwindContextStorage>(
 {
     match by_row::<U, M, S>(alloc, unwinder, section, row, memory, frame) {
         Ok(()) => Ok(()),
-        Err(end) => by_run_or_end(unwinder, memory, frame, end),
+        Err(end) => by_row_again(alloc, unwinder, section, row, memory, callee, frame, end),
     }
 }
 
-/// Makes a frame its caller by running its code, where its row has no caller since what it needs isn't known, or returns
-/// that end.
-fn by_run_or_end<U: BacktraceUnwinder, M: CodeMemory>(
+/// Makes a frame whose row has no caller its caller by that row over what a run of the callee's code knows, or else by
+/// running the frame's code. Returns the end if neither has one, or the row needs nothing that isn't known.
+fn by_row_again<U: BacktraceUnwinder, M: CodeMemory, S: UnwindContextStorage>(
+    alloc: Global,
     unwinder: &U,
+    section: &[u8],
+    row: &UnwindTableRow<S>,
     memory: &M,
+    callee: Option<Frame<U::UnwindRegs>>,
     frame: &mut Frame<U::UnwindRegs>,
     end: BacktraceEnd,
 ) -> Result<(), BacktraceEnd>
     ensures moved { moved_to result frame.new ≡ row_or
+        (by_row_of U.machine (M.code memory.now) (M.memory memory.now) (is_covered (U.unwinder_view unwinder.now).modules)
+        (completed U.machine (run_source (M.memory memory.now) (M.code memory.now) (is_covered (U.unwinder_view unwinder.now).modules))
+        (option_map frame_view callee) (frame_view frame.old)) section.now row.now)
         (by_run U.machine (M.code memory.now) (frame_view frame.old)
         (run_source (M.memory memory.now) (M.code memory.now) (is_covered (U.unwinder_view unwinder.now).modules)))
         (Err end) }
@@ -208,6 +224,50 @@ fn by_run_or_end<U: BacktraceUnwinder, M: CodeMemory>(
     if !is_unknown(end) {
         return Err(end);
     }
+    let mut again = completed(unwinder, memory, callee, frame);
+    match by_row::<U, M, S>(alloc, unwinder, section, row, memory, &mut again) {
+        Ok(()) => {
+            *frame = again;
+            Ok(())
+        }
+        Err(_) => by_run_or_end(unwinder, memory, frame, end),
+    }
+}
+
+/// Returns a frame with the registers that a run of its callee's code knows, where that comes to the frame.
+fn completed<U: BacktraceUnwinder, M: CodeMemory>(
+    unwinder: &U,
+    memory: &M,
+    callee: Option<Frame<U::UnwindRegs>>,
+    frame: &Frame<U::UnwindRegs>,
+) -> Frame<U::UnwindRegs>
+    ensures { frame_view result ≡ completed U.machine (run_source (M.memory memory.now) (M.code memory.now) (is_covered (U.unwinder_view unwinder.now).modules))
+        (option_map frame_view callee) (frame_view frame.now) }
+{
+    match callee {
+        Some(callee) => {
+            let process = ProcessCode { unwinder, memory };
+            let address = callee.address.address();
+            let columns = U::with_completed(&process, address, &callee.columns, &frame.columns);
+            Frame { columns, ..*frame }
+        }
+        None => *frame,
+    }
+}
+
+/// Makes a frame its caller by running its code, or returns an end if that comes to none.
+fn by_run_or_end<U: BacktraceUnwinder, M: CodeMemory>(
+    unwinder: &U,
+    memory: &M,
+    frame: &mut Frame<U::UnwindRegs>,
+    end: BacktraceEnd,
+) -> Result<(), BacktraceEnd>
+    ensures moved { moved_to result frame.new ≡ caller_or
+        (by_run U.machine (M.code memory.now) (frame_view frame.old)
+        (run_source (M.memory memory.now) (M.code memory.now) (is_covered (U.unwinder_view unwinder.now).modules)))
+        (Err end) }
+    ensures ended { OnErr result (frame.new ≡ frame.old) }
+{
     match by_run::<U, M>(unwinder, memory, frame) {
         Some(caller) => {
             *frame = caller;

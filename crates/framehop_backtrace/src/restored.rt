@@ -3,7 +3,7 @@ ghost use Rattle.std.specs.Prelude.{◌≡◌};
 ghost use Rattle.framehop_columns.specs.Caller.{is_same};
 ghost use Rattle.framehop_columns.specs.RegisterFile.{word_of, with_word};
 ghost use Rattle.framehop_backtrace.specs.Columns.{column};
-ghost use Rattle.framehop_backtrace.specs.Restored.{known_first, knows_kept, comes_to, restored_by, restored_in, with_restored};
+ghost use Rattle.framehop_backtrace.specs.Restored.{known_first, knows_kept, comes_to, restored_by, restored_in, with_restored, completed_by, completed_in, with_completed};
 
 use framehop_cfi::rule::Register;
 use framehop_cfi::x86_64::{R12, R15, RA, RBP, RBX, RSP};
@@ -12,6 +12,7 @@ use framehop_runs::run::{RunCaller, caller_by_runs};
 use framehop_runs::step::RunMemory;
 
 const R13: Register = Register(13);
+
 const R14: Register = Register(14);
 
 /// Returns the caller's registers by a row, with those that the row leaves unknown although a function restores them: as
@@ -109,4 +110,51 @@ fn known_first(word: Option<u64>, other: Option<u64>) -> Option<u64>
         Some(word) => Some(word),
         None => other,
     }
+}
+
+/// Returns the caller's registers, with all that is known of them where the frame's code, run from an address (AVMA) on
+/// over its registers, comes to this caller.
+pub(crate) fn with_completed<M: RunMemory>(
+    memory: &M,
+    address: u64,
+    registers: &RegisterFile,
+    caller: &RegisterFile,
+) -> RegisterFile
+    ensures { result ≡ with_completed (record { memory = M.WordMemory.memory memory.now; code = M.code memory.now; is_covered = M.covers memory.now })
+        address registers.now caller.now }
+{
+    completed_in(caller, caller_by_runs(memory, address, registers))
+}
+
+/// Returns the caller's registers with what a run knows of them, where it comes to that caller.
+fn completed_in(caller: &RegisterFile, run: Option<RunCaller>) -> RegisterFile
+    ensures { result ≡ completed_in caller.now run }
+{
+    match run {
+        Some(run) => {
+            if comes_to(caller, &run.registers) {
+                completed_by(caller, &run.registers)
+            } else {
+                *caller
+            }
+        }
+        None => *caller,
+    }
+}
+
+/// Returns the caller's registers with what a run knows of the general registers but rsp.
+fn completed_by(caller: &RegisterFile, run: &RegisterFile) -> RegisterFile
+    ensures { result ≡ completed_by run.now caller.now }
+{
+    let mut completed = restored_by(caller, run);
+    restore(&mut completed, Register(0), run);
+    restore(&mut completed, Register(1), run);
+    restore(&mut completed, Register(2), run);
+    restore(&mut completed, Register(4), run);
+    restore(&mut completed, Register(5), run);
+    restore(&mut completed, Register(8), run);
+    restore(&mut completed, Register(9), run);
+    restore(&mut completed, Register(10), run);
+    restore(&mut completed, Register(11), run);
+    completed
 }

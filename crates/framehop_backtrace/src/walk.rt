@@ -58,14 +58,19 @@ pub fn backtrace<U: BacktraceUnwinder, W: Rows, M: CodeMemory, S: UnwindContextS
         return Ok(StackTrace { frames, end });
     }
     let mut found = [None; KEPT_ROWS];
+    let mut callee: Option<Frame<U::UnwindRegs>> = None;
     let mut frame = first;
     frames.push(frame)?;
     for _caller in 1..limit {
+        let before = frame;
         let moved = next_kept_frame(
-            alloc, unwinder, rows, room, &mut found, cache, memory, &mut frame,
+            alloc, unwinder, rows, room, &mut found, cache, memory, callee, &mut frame,
         )?;
         match moved {
-            Ok(()) => frames.push(frame)?,
+            Ok(()) => {
+                frames.push(frame)?;
+                callee = Some(before);
+            }
             Err(end) => return Ok(StackTrace { frames, end }),
         }
     }

@@ -9,7 +9,7 @@ use crate::covers::is_covered;
 use crate::info::is_by_info;
 use crate::machine::{BacktraceUnwinder, known_or};
 use crate::memory::CodeMemory;
-use crate::restored::with_restored;
+use crate::restored::{with_completed, with_restored};
 use crate::rows::{RowFinding, Rows};
 use crate::step::{follow_frame_pointer, step_at_start};
 use framehop::AllocationPolicy;
@@ -118,6 +118,15 @@ impl<D: SectionBytes + Drop, P: AllocationPolicy> BacktraceUnwinder for Unwinder
         caller: &RegisterFile,
     ) -> RegisterFile {
         with_restored(memory, address, registers, caller)
+    }
+
+    fn with_completed<M: RunMemory>(
+        memory: &M,
+        address: u64,
+        registers: &RegisterFile,
+        caller: &RegisterFile,
+    ) -> RegisterFile {
+        with_completed(memory, address, registers, caller)
     }
 
     fn is_by_info<M: WordMemory>(

@@ -282,6 +282,46 @@ fn runs_code_whose_row_is_not_known(rt: HostRuntime) -> Result<(), Fail> {
     Ok(())
 }
 
+/// The `.eh_frame` of [`EH_FRAME`], whose second FDE is for 0x401040 to 0x401080, with rax + 8 as its CFA.
+const EH_FRAME_BY_RAX: &'static [u8] = &[
+    0x14, 0x00, 0x00, 0x00, 0x00, 0x00, 0x00, 0x00, 0x01, 0x7a, 0x52, 0x00, 0x01, 0x78, 0x10, 0x01,
+    0x1b, 0x0c, 0x07, 0x08, 0x90, 0x01, 0x00, 0x00, 0x14, 0x00, 0x00, 0x00, 0x1c, 0x00, 0x00, 0x00,
+    0xe0, 0xef, 0xff, 0xff, 0x40, 0x00, 0x00, 0x00, 0x00, 0x0e, 0x20, 0x83, 0x03, 0x00, 0x00, 0x00,
+    0x14, 0x00, 0x00, 0x00, 0x34, 0x00, 0x00, 0x00, 0x08, 0xf0, 0xff, 0xff, 0x40, 0x00, 0x00, 0x00,
+    0x00, 0x0c, 0x00, 0x08, 0x00, 0x00, 0x00, 0x00, 0x00, 0x00, 0x00, 0x00,
+];
+
+/// Code of a function of the first FDE that keeps rax: add rsp, 24; ret.
+const CODE_THAT_KEEPS_RAX: [(usize, &[u8]); 1] = [(0x04, &[0x48, 0x83, 0xc4, 0x18, 0xc3])];
+
+/// The return addresses of that function, of its caller, which is where rax is, and of the next.
+const WORDS_BY_RAX: [(u64, u64); 3] = [
+    (0x7000 + 24, 0x401050),
+    (0x7200, 0x401030),
+    (0x7208 + 24, 0x401090),
+];
+
+/// The frames, of which the row of the second is by a register that the row of the first doesn't tell.
+const FRAMES_BY_RAX: [FrameRow; 4] = [
+    (0x401004, false, FoundBy::First),
+    (0x401050, true, FoundBy::Cfi),
+    (0x401030, true, FoundBy::Cfi),
+    (0x401090, true, FoundBy::Cfi),
+];
+
+#[test]
+fn knows_what_the_callee_keeps(rt: HostRuntime) -> Result<(), Fail> {
+    let sections = sections_of(0x400000, Some(EH_FRAME_BY_RAX), 0x402000..0x40204c, None);
+    let unwinder = unwinder_x86_64(rt.alloc(), &mut Generations::new(), sections)?;
+    let file = file_of(&CODE_THAT_KEEPS_RAX, &WORDS_BY_RAX);
+    let memory = dump_of(rt.alloc(), &file, CODE_SIZE)?;
+    let mut regs = UnwindRegsX86_64::new(0x401004, 0x7000, 0);
+    regs.set(Reg::RAX, 0x7200);
+    let found = backtrace_in(rt.alloc(), &unwinder, unwinder.inner(), &memory, regs, 10)?;
+    assert!(rt; is_trace(&found, &FRAMES_BY_RAX, BacktraceEnd::FramePointerZero));
+    Ok(())
+}
+
 /// Code of calls by their offsets. They end at 0x401010, 0x401020, 0x401030, 0x401040 and 0x401050.
 const CALLS: [(usize, &[u8]); 7] = [
     // call 0x4010c0, call 0x4010d0

@@ -1,4 +1,4 @@
-use Rattle.std.proofs.Common.{◌∙◌, ap, sym}
+use Rattle.std.proofs.Common.{◌∙◌, None, ap, sym}
 use Rattle.framehop_backtrace.specs.Covers.{is_covered}
 use Rattle.framehop_backtrace.specs.Backtrace.{frame_view, stack_of}
 use Rattle.framehop_backtrace.specs.Rows.{finding_of}
@@ -11,7 +11,7 @@ returns-then-is_in_trampoline-clause-exact g c = λ sound.
     stack_of g.U.BacktraceUnwinder.machine (g.U.Unwinder.step c.args.unwinder.now)
     (g.U.BacktraceUnwinder.is_by_info c.args.unwinder.now) (g.W.Rows.rows c.args.rows.now g.S.UnwindContextStorage.limits)
     (is_covered (g.U.Unwinder.unwinder_view c.args.unwinder.now).modules) (g.M.WordMemory.memory c.args.memory.now) (g.M.CodeMemory.code c.args.memory.now) in
-    c.by_signal.ensures.moved ∙ sym (at-signal stack (frame_view c.args.frame.now) (sym c.is_in_trampoline.ensures ∙ c.if-is_in_trampoline.true))
+    c.by_signal.ensures.moved ∙ sym (at-signal stack None (frame_view c.args.frame.now) (sym c.is_in_trampoline.ensures ∙ c.if-is_in_trampoline.true))
 
 pub returns-clause-exact : goal.returns-clause-exact
 returns-clause-exact g c = λ sound.
@@ -20,7 +20,7 @@ returns-clause-exact g c = λ sound.
     stack_of g.U.BacktraceUnwinder.machine (g.U.Unwinder.step c.args.unwinder.now)
     (g.U.BacktraceUnwinder.is_by_info c.args.unwinder.now) rows (is_covered (g.U.Unwinder.unwinder_view c.args.unwinder.now).modules)
     (g.M.WordMemory.memory c.args.memory.now) (g.M.CodeMemory.code c.args.memory.now) in
-    rw (at-finding stack (frame_view c.args.frame.now) (finding_of c.in_ok-finding.finding c.row-row.result.now)
+    rw (at-finding stack None (frame_view c.args.frame.now) (finding_of c.in_ok-finding.finding c.row-row.result.now)
     (sym c.is_in_trampoline.ensures ∙ c.if-is_in_trampoline.false)
     (ap (finding_of c.in_ok-finding.finding) c.row-row.ensures ∙ c.in_ok-finding.ensures.found))
     (c.by_finding.ensures.exact rows sound)

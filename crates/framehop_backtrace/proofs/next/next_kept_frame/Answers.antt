@@ -1,4 +1,5 @@
 use Rattle.std.proofs.Common.{◌∙◌, ap, sym}
+use Rattle.std.specs.Prelude.{option_map}
 use Rattle.framehop_backtrace.specs.Covers.{is_covered}
 use Rattle.framehop_backtrace.specs.Backtrace.{frame_view, stack_of}
 use Rattle.framehop_backtrace.specs.Rows.{finding_of}
@@ -11,7 +12,7 @@ returns-then-is_in_trampoline-clause-exact g c = λ are sound.
     stack_of g.U.BacktraceUnwinder.machine (g.U.Unwinder.step c.args.unwinder.now)
     (g.U.BacktraceUnwinder.is_by_info c.args.unwinder.now) (g.W.Rows.rows c.args.rows.now g.S.UnwindContextStorage.limits)
     (is_covered (g.U.Unwinder.unwinder_view c.args.unwinder.now).modules) (g.M.WordMemory.memory c.args.memory.now) (g.M.CodeMemory.code c.args.memory.now) in
-    c.by_signal.ensures.moved ∙ sym (at-signal stack (frame_view c.args.frame.now) (sym c.is_in_trampoline.ensures ∙ c.if-is_in_trampoline.true))
+    c.by_signal.ensures.moved ∙ sym (at-signal stack (option_map frame_view c.args.callee) (frame_view c.args.frame.now) (sym c.is_in_trampoline.ensures ∙ c.if-is_in_trampoline.true))
 
 pub returns-clause-exact : goal.returns-clause-exact
 returns-clause-exact g c = λ are sound.
@@ -20,7 +21,7 @@ returns-clause-exact g c = λ are sound.
     stack_of g.U.BacktraceUnwinder.machine (g.U.Unwinder.step c.args.unwinder.now)
     (g.U.BacktraceUnwinder.is_by_info c.args.unwinder.now) rows (is_covered (g.U.Unwinder.unwinder_view c.args.unwinder.now).modules)
     (g.M.WordMemory.memory c.args.memory.now) (g.M.CodeMemory.code c.args.memory.now) in
-    rw (at-finding stack (frame_view c.args.frame.now) (finding_of c.in_ok-place.finding c.row-row.result.now)
+    rw (at-finding stack (option_map frame_view c.args.callee) (frame_view c.args.frame.now) (finding_of c.in_ok-place.finding c.row-row.result.now)
     (sym c.is_in_trampoline.ensures ∙ c.if-is_in_trampoline.false)
     (ap (finding_of c.in_ok-place.finding) c.row-row.ensures ∙ c.in_ok-place.ensures.found are))
     (c.by_finding.ensures.exact rows sound)

@@ -1,4 +1,5 @@
 use Rattle.std.proofs.Common.{◌∙◌, ◌-◌, ◌+◌, ◌++◌, ◌∷◌, [], None, map, ap, sym, refl, arith}
+use Rattle.std.specs.Prelude.{option_map}
 use Rattle.std.proofs.lemmas.List.{map-append}
 use Rattle.framehop_backtrace.specs.Covers.{is_covered}
 use Rattle.framehop_backtrace.specs.Backtrace.{frame_view, moved_to, stack_of}
@@ -37,7 +38,7 @@ loop-caller-preserved g c =
     let view = g.U.Unwinder.unwinder_view c.args.unwinder.now in
     let l = c.loop-caller in (
       λ other apart sound. c.in_ok-moved.ensures.stays_sound other apart (l.invariant.0 other apart sound),
-      λ sound. one-more stack (c.args.limit - l._caller) (c.args.limit - (l._caller + 1)) (frame_view l.frame)
+      λ sound. one-more stack (c.args.limit - l._caller) (c.args.limit - (l._caller + 1)) (option_map frame_view l.callee) (frame_view l.frame)
           (frame_view c.next_kept_frame.new.frame) (map frame_view l.frames.items) (map frame_view c.push-in-Ok.new.self.items) _ (omega arith)
           (sym (ap (λ moved. moved_to moved c.next_kept_frame.new.frame) c.in-Ok.is) ∙ c.in_ok-moved.ensures.exact l.invariant.3 (l.invariant.0 view (λ same. refl) sound))
           (ap (map frame_view) c.in_ok-push-in-Ok.ensures.items ∙ map-append frame_view l.frames.items (c.next_kept_frame.new.frame ∷ []))
@@ -54,7 +55,7 @@ returns-in-Err-clause-exact g c = λ sound.
     (is_covered (g.U.Unwinder.unwinder_view c.args.unwinder.now).modules) (g.M.WordMemory.memory c.args.memory.now) (g.M.CodeMemory.code c.args.memory.now) in
     let view = g.U.Unwinder.unwinder_view c.args.unwinder.now in
     let l = c.loop-caller in
-    ended stack (c.args.limit - l._caller) (c.args.limit - (l._caller + 1)) (frame_view l.frame) c.in-Err.end
+    ended stack (c.args.limit - l._caller) (c.args.limit - (l._caller + 1)) (option_map frame_view l.callee) (frame_view l.frame) c.in-Err.end
     (map frame_view l.frames.items) _ (omega arith)
     (sym (ap (λ moved. moved_to moved c.next_kept_frame.new.frame) c.in-Err.is) ∙ c.in_ok-moved.ensures.exact l.invariant.3 (l.invariant.0 view (λ same. refl) sound)) (l.invariant.1 sound)
 
@@ -65,7 +66,7 @@ returns-clause-exact g c = λ sound.
     (g.U.BacktraceUnwinder.is_by_info c.args.unwinder.now) (g.W.Rows.rows c.args.rows.now g.S.UnwindContextStorage.limits)
     (is_covered (g.U.Unwinder.unwinder_view c.args.unwinder.now).modules) (g.M.WordMemory.memory c.args.memory.now) (g.M.CodeMemory.code c.args.memory.now) in
     let l = c.loop-caller in
-    limited stack (c.args.limit - l._caller) (frame_view l.frame) (map frame_view l.frames.items) _ (omega arith)
+    limited stack (c.args.limit - l._caller) (option_map frame_view l.callee) (frame_view l.frame) (map frame_view l.frames.items) _ (omega arith)
     (l.invariant.1 sound)
 
 pub returns-then-limit-eq0-clause-library : goal.returns-then-limit-eq0-clause-library

@@ -1,4 +1,5 @@
 use Rattle.std.proofs.Common.{◌≡◌, ◌-◌, map, length}
+use Rattle.std.specs.Prelude.{option_map}
 use Rattle.framehop.specs.Modules.{UnwinderView}
 use Rattle.framehop.specs.Soundness.{AreApart}
 use Rattle.framehop_backtrace.specs.Covers.{is_covered}
@@ -16,6 +17,6 @@ invariant-loop-caller g l =
     rows (is_covered (g.U.Unwinder.unwinder_view l.unwinder).modules) (g.M.WordMemory.memory l.memory) (g.M.CodeMemory.code l.memory) in
     ((other : UnwinderView) → AreApart view other → g.U.Unwinder.is_sound other l.fn.cache → g.U.Unwinder.is_sound other l.cache)
     × (g.U.Unwinder.is_sound view l.fn.cache →
-    joined (map frame_view l.frames.items) (callers_of stack (l.limit - l._caller) (frame_view l.frame))
+    joined (map frame_view l.frames.items) (callers_of stack (l.limit - l._caller) (option_map frame_view l.callee) (frame_view l.frame))
     ≡ backtrace_of stack l.limit (frame_view l.initial.frame))
     × (length l.found ≡ kept_rows) × AreFound rows l.found l.room
