@@ -15,6 +15,8 @@
 //! - What a row leaves unknown of the registers that a function restores, since their words can't be
 //!   read, is taken from a run of the code to its return, where that comes to the row's caller: after
 //!   a `pop` a row has the register in the word below the stack pointer still.
+//! - A row that needs another register, as rax in assembly, is tried once more over all that a run of
+//!   the callee's code keeps. gdb takes such a register to be the callee's, whatever that does.
 //! - A return address is in code if the byte before it is, or it itself, as that of a trampoline at
 //!   the beginning of a mapping.
 //! - Rows come from a trait (`Rows`), so that call frames that the library leaves out can be a
