@@ -24,7 +24,7 @@ least() {
 for recording in "$@"; do
     echo "== $recording, $(stat -c %s "$recording") bytes"
     "$ours" --frames "$recording" >"$made/ours" 2>"$made/said" || true
-    perf script --no-inline --ns --show-mmap-events -F comm,pid,tid,time,ip,sym -i "$recording" >"$made/perf" 2>/dev/null || true
+    perf script --no-inline --ns --show-mmap-events -F comm,pid,tid,time,ip,sym,uregs -i "$recording" >"$made/perf" 2>/dev/null || true
     python3 "$top/bench/compare_stacks.py" "$made/perf" "$made/ours" "${SHOWN:-0}"
     echo "framehop-stacks: $(least "$ours" "$recording")"
     echo "perf script -F ip,sym: $(least perf script --no-inline -F ip,sym -i "$recording")"
