@@ -47,7 +47,7 @@ echo '$ framehop-stacks --root . --frames tiny.data | head -n 1'
 echo "status ${PIPESTATUS[0]}"
 for script in "$made"/*.js; do
     [ -e "$script" ] || continue
-    perf record -q -e cpu-clock -F 99 --call-graph dwarf,16384 -o "$made/node.data" node --perf-basic-prof "$script" >/dev/null || exit 2
+    (cd "$made" && perf record -q -e cpu-clock -F 99 --call-graph dwarf,16384 -o node.data node --perf-basic-prof "$script" >/dev/null) || exit 2
     asked 0 "$made/node.data"
     "$program" "$made/node.data" 2>/dev/null | grep -o 'JS:[^;]*' | sort | uniq -c | sort -rn | head -n 5
 done
