@@ -33,8 +33,8 @@ use Rattle.framehop_runs.specs.State.{RCX, RBP, RSP, sum, difference, product, s
 use Rattle.framehop_runs.specs.declared.run.RunCaller.{RunCaller}
 use Rattle.framehop_runs.specs.Run.{caller_of, onward, run_from}
 use Rattle.framehop_runs.specs.Sound.ReturnsTo.{arrives, goes_on}
-use Rattle.framehop_runs.specs.Calls.{is_none, opened}
-use Rattle.framehop_runs.specs.Step.{Source, After, goes, returns, given_up, at, on_at, changed, takes, with_loop, met, branched_by, branched, jumped, counted, scratch, passed_over_at, passed_over, with_calls, with_call_at, with_call, entered, is_entered, called, returned, done, goes_by, returns_by, checked, stepped, step_of}
+use Rattle.framehop_runs.specs.Calls.{opened, noted}
+use Rattle.framehop_runs.specs.Step.{Source, After, goes, returns, given_up, at, on_at, changed, takes, with_loop, met, branched_by, branched, jumped, counted, scratch, passed_over_at, passed_over, with_calls, with_call_at, with_call, with_returns, with_return, entered, is_entered, called, is_own_return, returned, done, goes_by, returns_by, checked, stepped, step_of}
 use Rattle.framehop_runs.proofs.StoreLemmas.{remembers-after}
 
 -- what the run knows of the processor's registers and memory
@@ -525,6 +525,18 @@ entered-fits : (memory : Memory) (after : State) (o : Option State) (now : Machi
 entered-fits memory after None now fits is = cc
 entered-fits memory after (Some s) now fits is = call-fits memory s after (word_of s.registers RSP) now (fits s refl) is
 
+noted-fits : (memory : Memory) (state after : State) (o : Option (List ℕ)) (now : Machine) → Fits memory state now
+    → with_returns state o ≡ Some after → Fits memory after now
+noted-fits memory state after None now fits is = cc
+noted-fits memory state after (Some addresses) now fits is =
+    subst (λ (s : State). Fits memory s now) (some-state (record state { after_calls = addresses }) after is)
+    (record { long = fits.long; knows = fits.knows; remembers = fits.remembers })
+
+return-fits : (memory : Memory) (next : ℕ) (after : State) (o : Option State) (now : Machine) → ((s : State) → o ≡ Some s → Fits memory s now)
+    → option_and_then (with_return next) o ≡ Some after → Fits memory after now
+return-fits memory next after None now fits is = cc
+return-fits memory next after (Some s) now fits is = noted-fits memory s after (noted s.after_calls next) now (fits s refl) is
+
 over-fits : (memory : Memory) (state after : State) (a : ℕ) (before now : Machine) → Fits memory state (record now { numbers = before.numbers })
     → IsWrite a 0x10000 before.numbers now.numbers → with_bytes state (Some a) 0x10000 None ≡ Some after → Fits memory after now
 over-fits memory state after a before now fits write is =
@@ -546,10 +558,11 @@ called-by : (source : Source) (state : State) (next target : ℕ) (enters : Bool
     → CallsTo enters next target before now
     → FitsAfter source.memory (if enters then entered state next target else passed_over state next) now
 called-by source state next target true before now fits calls =
-    on-at source.memory target (option_and_then with_call (pushed state (Some next))) now calls.0
+    on-at source.memory target (option_and_then (with_return next) (option_and_then with_call (pushed state (Some next)))) now calls.0
+    (λ r noting. return-fits source.memory next r (option_and_then with_call (pushed state (Some next))) now
     (λ s is. entered-fits source.memory s (pushed state (Some next)) now
     (λ t pushes. pushed-fits source.memory state t (word_of state.registers RSP) (Some next) next before now fits (λ x known. fits.knows 7 x known)
-    (λ x same. some-eq next x same) pushes calls.1) is)
+    (λ x same. some-eq next x same) pushes calls.1) is) noting)
 called-by source state next target false before now fits calls =
     passed-over-fits source.memory state next (word_of state.registers RSP) before now fits (λ x known. fits.knows 7 x known) calls.1 calls.0
 
@@ -594,7 +607,7 @@ returned-fits : (memory : Memory) (state : State) (bytes : ℕ) (address : Optio
     → FitsAfter memory (returned state bytes address) now
 returned-fits memory state bytes None before now fits known here sets kept = tt
 returned-fits memory state bytes (Some address) before now fits known here sets kept =
-    returned-to-fits memory (raised_by (raised_by state 8) bytes) address (is_none (raised_by (raised_by state 8) bytes).calls) now
+    returned-to-fits memory (raised_by (raised_by state 8) bytes) address (is_own_return (raised_by (raised_by state 8) bytes) address) now
     (raised-fits memory (raised_by state 8) bytes (raised-once before) now
     (raised-fits memory state 8 before (raised-once before) fits (once-sets before) (once-kept before))
     (twice-sets before now bytes sets) (once-now before now kept))

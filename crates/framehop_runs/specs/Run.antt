@@ -47,7 +47,7 @@ run_from source forward (suc n) state = onward (run_from source forward n) (step
 
 -- a run begins with what is known of a frame
 abbrev pub start : ℕ → List (Option ℕ) → State
-start address registers = record { address = address; registers = registers; writes = []; calls = []; looped = 0 }
+start address registers = record { address = address; registers = registers; writes = []; calls = []; after_calls = []; looped = 0 }
 
 unfoldable pub run_of : Source → Bool → ℕ → List (Option ℕ) → Option RunCaller
 run_of source forward address registers = run_from source forward 1024 (start address registers)

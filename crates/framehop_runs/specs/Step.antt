@@ -12,7 +12,7 @@ use Rattle.framehop_code.specs.declared.x86_64.action.Width.TheVariants.{Eight}
 use Rattle.framehop_runs.specs.declared.state.State.{State}
 use Rattle.framehop_runs.specs.declared.step.Step.{Step}
 use Rattle.framehop_runs.specs.declared.step.Step.TheVariants.{Goes, Returns, GivenUp}
-use Rattle.framehop_runs.specs.Calls.{is_none, opened}
+use Rattle.framehop_runs.specs.Calls.{is_none, opened, has, noted}
 use Rattle.framehop_runs.specs.State.{RCX, RSP, sum, difference, place_of, address_of, operand_of, value_of, computed_of, with_register, with_bytes, put, pushed, raised_by, word_at, popped, leaving, forgotten}
 
 -- what a run reads: memory, code, and which functions unwind data covers
@@ -110,8 +110,17 @@ with_call_at state None = None
 abbrev pub with_call : State → Option State
 with_call state = with_call_at state (word_of state.registers RSP)
 
+-- and its return address is noted
+abbrev pub with_returns : State → Option (List ℕ) → Option State
+with_returns state (Some addresses) = Some (record state { after_calls = addresses })
+with_returns state None = None
+
+abbrev pub with_return : ℕ → State → Option State
+with_return next state = with_returns state (noted state.after_calls next)
+
 abbrev pub entered : State → ℕ → ℕ → After
-entered state next target = on_at target (option_and_then with_call (pushed state (Some next)))
+entered state next target =
+    on_at target (option_and_then (with_return next) (option_and_then with_call (pushed state (Some next))))
 
 abbrev pub has_some : List ℕ → Bool
 has_some [] = false
@@ -126,9 +135,13 @@ called source state next (Some target) =
     if is_entered source target then entered state next target else passed_over state next
 called source state next None = passed_over state next
 
--- it is the function's own return where no call of the run is open
+-- It is the function's own return where no call of the run is open, and it leads to no instruction after a call that the
+-- run has entered: such a function may have moved its return address on the stack.
+abbrev pub is_own_return : State → ℕ → Bool
+is_own_return state address = is_none state.calls && not (has state.after_calls address)
+
 abbrev pub returned_to : State → ℕ → After
-returned_to state address = if is_none state.calls then returns (at address state) else goes (at address state)
+returned_to state address = if is_own_return state address then returns (at address state) else goes (at address state)
 
 abbrev pub returned : State → ℕ → Option ℕ → After
 returned state bytes (Some address) = returned_to (raised_by (raised_by state 8) bytes) address

@@ -1,13 +1,13 @@
 //! The calls that a run has entered.
 ghost use Rattle.std.specs.Prelude.{◌≡◌, [], nat_le};
-ghost use Rattle.std.specs.List.{filter};
-ghost use Rattle.framehop_runs.specs.Calls.{is_none, opened, left_by};
+ghost use Rattle.std.specs.List.{filter, list_any};
+ghost use Rattle.framehop_runs.specs.Calls.{is_none, opened, has, noted, left_by};
 
 use arrayvec::ArrayVec;
 use std::marker::Model;
 
-/// The calls that a run has entered and not returned from: the address (AVMA) of the word on the stack that has the
-/// return address of each, the outermost first.
+/// Addresses (AVMA) of calls that a run has entered, the first first: of the words on the stack that have their return
+/// addresses, of those that it has not returned from; or the return addresses, of all.
 #[derive(Drop)]
 pub struct Calls {
     words: ArrayVec<u64, 8>,
@@ -47,6 +47,23 @@ impl Calls {
         }
         self.words.push(word);
         true
+    }
+
+    /// Returns whether an address (AVMA) is one of these.
+    pub(crate) fn has(&self, address: u64) -> bool
+        ensures { result ≡ has self.now address }
+    {
+        self.words.as_slice().iter().any(|word| *word == address)
+    }
+
+    /// Adds an address (AVMA), once. Returns `false` where there are eight others.
+    pub(crate) fn note(&mut self, address: u64) -> bool
+        ensures { left_by result self.new ≡ noted self.old address }
+    {
+        if self.has(address) {
+            return true;
+        }
+        self.open(address)
     }
 
     /// Closes the calls whose return address is below the stack pointer (AVMA): it has been taken from the stack.

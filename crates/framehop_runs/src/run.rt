@@ -60,6 +60,7 @@ fn run<M: RunMemory>(
         registers: *registers,
         writes: Writes::new(),
         calls: Calls::new(),
+        after_calls: Calls::new(),
         looped: 0,
     };
     run_from(memory, forward, &mut state)

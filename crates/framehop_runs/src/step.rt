@@ -1,7 +1,7 @@
 //! What a run knows after an instruction.
 ghost use Rattle.std.specs.Prelude.{◌≡◌, ℕ, List, Bool, Some, None, option_map, nat_lt};
 ghost use Rattle.framehop_runs.specs.State.{left_by};
-ghost use Rattle.framehop_runs.specs.Step.{Source as RunSource, after, on_at, changed, takes, with_loop, met, branched, jumped, counted, passed_over, with_call_at, entered, is_entered, has_some, called, returned, returned_to, done, checked, stepped, step_of};
+ghost use Rattle.framehop_runs.specs.Step.{Source as RunSource, after, on_at, changed, takes, with_loop, met, branched, jumped, counted, passed_over, with_call_at, entered, is_entered, has_some, called, returned, is_own_return, returned_to, done, checked, stepped, step_of};
 
 use crate::state::{State, computed_of};
 use framehop_cfi::rule::Register;
@@ -262,8 +262,11 @@ impl State {
             return Step::GivenUp;
         }
         let sp = self.registers.get(RSP);
-        let is_open = self.open(sp);
-        self.go_on(is_open, target)
+        if !self.open(sp) {
+            return Step::GivenUp;
+        }
+        let is_noted = self.after_calls.note(next);
+        self.go_on(is_noted, target)
     }
 
     /// Opens a call whose return address is at the stack pointer. Returns `false` where too many are open.
@@ -300,15 +303,23 @@ impl State {
         self.go_back_to(address)
     }
 
-    /// Returns to an address (AVMA): to the caller, or where calls of the run are open, from the last of them.
+    /// Returns to an address (AVMA): to the caller, or from a call that the run has entered.
     fn go_back_to(&mut self, address: u64) -> Step
         ensures { after result self.new ≡ returned_to self.old address }
     {
         self.address = address;
-        if self.calls.is_none() {
+        if self.is_own_return(address) {
             return Step::Returns;
         }
         Step::Goes
+    }
+
+    /// Returns whether a return to an address (AVMA) is the function's own: no call of the run is open, and the address is
+    /// after none that it has entered, which may have moved its return address on the stack.
+    fn is_own_return(&self, address: u64) -> bool
+        ensures { result ≡ is_own_return self.now address }
+    {
+        self.calls.is_none() && !self.after_calls.has(address)
     }
 }
 

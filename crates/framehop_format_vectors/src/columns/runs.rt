@@ -154,6 +154,16 @@ fn helpers_are_entered(rt: HostRuntime) -> Result<(), Fail> {
 }
 
 #[test]
+fn helpers_may_move_their_return_address(rt: HostRuntime) -> Result<(), Fail> {
+    // call +1; ret; helper: pop rcx; push rcx; ret
+    let code = &[0xe8, 0x01, 0x00, 0x00, 0x00, 0xc3, 0x59, 0x51, 0xc3];
+    let caller = caller_of(rt, code, 0x7040, (RBX, 77), 0)?;
+    let there = Some((0x3005, Some(0x7048), Some(77)));
+    assert_eq!(rt; found(caller, RBX), there);
+    Ok(())
+}
+
+#[test]
 fn covered_functions_are_passed_over(rt: HostRuntime) -> Result<(), Fail> {
     // push rbx; call +2; pop rbx; ret; a function: ud2
     let code = &[0x53, 0xe8, 0x02, 0x00, 0x00, 0x00, 0x5b, 0xc3, 0x0f, 0x0b];
