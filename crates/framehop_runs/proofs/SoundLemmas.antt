@@ -575,9 +575,11 @@ called-fits source state next (Some target) before now fits calls = called-by so
 returned-to-fits : (memory : Memory) (state : State) (address : ℕ) (none : Bool) (now : Machine) → Fits memory state now → now.address ≡ address
     → FitsAfter memory (if none then returns (at address state) else goes (at address (left_call state address))) now
 returned-to-fits memory state address true now fits here = (at-fits memory state address now fits, here)
-returned-to-fits memory state address false now fits here =
-    (at-fits memory (left_call state address) address now
-    (record { long = fits.long; knows = fits.knows; remembers = fits.remembers }), here)
+returned-to-fits memory state address false now fits here = (
+  at-fits memory (left_call state address) address now
+      (record { long = fits.long; knows = fits.knows; remembers = fits.remembers }),
+  here,
+)
 
 -- rsp raised twice
 raised-once : Machine → Machine
