@@ -34,7 +34,7 @@ use Rattle.framehop_runs.specs.declared.run.RunCaller.{RunCaller}
 use Rattle.framehop_runs.specs.Run.{caller_of, onward, run_from}
 use Rattle.framehop_runs.specs.Sound.ReturnsTo.{arrives, goes_on}
 use Rattle.framehop_runs.specs.Calls.{opened, noted}
-use Rattle.framehop_runs.specs.Step.{Source, After, goes, returns, given_up, at, on_at, changed, takes, with_loop, met, branched_by, branched, jumped, counted, scratch, passed_over_at, passed_over, with_calls, with_call_at, with_call, with_returns, with_return, entered, is_entered, called, is_own_return, returned, done, goes_by, returns_by, checked, stepped, step_of}
+use Rattle.framehop_runs.specs.Step.{Source, After, goes, returns, given_up, at, on_at, changed, takes, with_loop, met, branched_by, branched, jumped, counted, scratch, passed_over_at, passed_over, with_calls, with_call_at, with_call, with_returns, with_return, entered, is_entered, called, is_own_return, left_call, returned, done, goes_by, returns_by, checked, stepped, step_of}
 use Rattle.framehop_runs.proofs.StoreLemmas.{remembers-after}
 
 -- what the run knows of the processor's registers and memory
@@ -573,9 +573,13 @@ called-fits source state next None before now fits calls =
 called-fits source state next (Some target) before now fits calls = called-by source state next target (is_entered source target) before now fits calls
 
 returned-to-fits : (memory : Memory) (state : State) (address : ℕ) (none : Bool) (now : Machine) → Fits memory state now → now.address ≡ address
-    → FitsAfter memory (if none then returns (at address state) else goes (at address state)) now
+    → FitsAfter memory (if none then returns (at address state) else goes (at address (left_call state address))) now
 returned-to-fits memory state address true now fits here = (at-fits memory state address now fits, here)
-returned-to-fits memory state address false now fits here = (at-fits memory state address now fits, here)
+returned-to-fits memory state address false now fits here = (
+  at-fits memory (left_call state address) address now
+      (record { long = fits.long; knows = fits.knows; remembers = fits.remembers }),
+  here,
+)
 
 -- rsp raised twice
 raised-once : Machine → Machine

@@ -1,7 +1,7 @@
 -- The calls that a run has entered and not returned from, by where on the stack their return addresses are; and the
--- return addresses of all that it has entered.
-use Rattle.std.specs.Prelude.{ℕ, Bool, true, false, ◌==◌, nat_lt, if◌then◌else◌, List, [], ◌∷◌, ◌++◌, length, Option, Some, None}
-use Rattle.std.specs.List.{list_any}
+-- return addresses of all that it has entered and not returned to.
+use Rattle.std.specs.Prelude.{ℕ, Bool, true, false, not, ◌==◌, nat_lt, if◌then◌else◌, List, [], ◌∷◌, ◌++◌, length, Option, Some, None}
+use Rattle.std.specs.List.{filter, list_any}
 
 abbrev pub is_none : List ℕ → Bool
 is_none [] = true
@@ -18,6 +18,10 @@ has words address = list_any (λ word. word == address) words
 -- one more, once
 abbrev pub noted : List ℕ → ℕ → Option (List ℕ)
 noted words address = if has words address then Some words else opened words address
+
+-- the others
+abbrev pub without : List ℕ → ℕ → List ℕ
+without words address = filter (λ word. not (word == address)) words
 
 -- what is left where there was room
 abbrev pub left_by : Bool → List ℕ → Option (List ℕ)

@@ -12,7 +12,7 @@ use Rattle.framehop_code.specs.declared.x86_64.action.Width.TheVariants.{Eight}
 use Rattle.framehop_runs.specs.declared.state.State.{State}
 use Rattle.framehop_runs.specs.declared.step.Step.{Step}
 use Rattle.framehop_runs.specs.declared.step.Step.TheVariants.{Goes, Returns, GivenUp}
-use Rattle.framehop_runs.specs.Calls.{is_none, opened, has, noted}
+use Rattle.framehop_runs.specs.Calls.{is_none, opened, has, noted, without}
 use Rattle.framehop_runs.specs.State.{RCX, RSP, sum, difference, place_of, address_of, operand_of, value_of, computed_of, with_register, with_bytes, put, pushed, raised_by, word_at, popped, leaving, forgotten}
 
 -- what a run reads: memory, code, and which functions unwind data covers
@@ -136,12 +136,16 @@ called source state next (Some target) =
 called source state next None = passed_over state next
 
 -- It is the function's own return where no call of the run is open, and it leads to no instruction after a call that the
--- run has entered: such a function may have moved its return address on the stack.
+-- run has entered and not returned from: such a function may have moved its return address on the stack.
 abbrev pub is_own_return : State → ℕ → Bool
 is_own_return state address = is_none state.calls && not (has state.after_calls address)
 
+abbrev pub left_call : State → ℕ → State
+left_call state address = record state { after_calls = without state.after_calls address }
+
 abbrev pub returned_to : State → ℕ → After
-returned_to state address = if is_own_return state address then returns (at address state) else goes (at address state)
+returned_to state address =
+    if is_own_return state address then returns (at address state) else goes (at address (left_call state address))
 
 abbrev pub returned : State → ℕ → Option ℕ → After
 returned state bytes (Some address) = returned_to (raised_by (raised_by state 8) bytes) address

@@ -1,13 +1,13 @@
 //! The calls that a run has entered.
-ghost use Rattle.std.specs.Prelude.{◌≡◌, [], nat_le};
+ghost use Rattle.std.specs.Prelude.{◌≡◌, ◌==◌, [], nat_le, not};
 ghost use Rattle.std.specs.List.{filter, list_any};
-ghost use Rattle.framehop_runs.specs.Calls.{is_none, opened, has, noted, left_by};
+ghost use Rattle.framehop_runs.specs.Calls.{is_none, opened, has, noted, without, left_by};
 
 use arrayvec::ArrayVec;
 use std::marker::Model;
 
 /// Addresses (AVMA) of calls that a run has entered, the first first: of the words on the stack that have their return
-/// addresses, of those that it has not returned from; or the return addresses, of all.
+/// addresses, of those that it has not returned from; or the return addresses, of those to which it has not returned.
 #[derive(Drop)]
 pub struct Calls {
     words: ArrayVec<u64, 8>,
@@ -66,6 +66,13 @@ impl Calls {
         self.open(address)
     }
 
+    /// Drops an address (AVMA).
+    pub(crate) fn forget(&mut self, address: u64)
+        ensures { self.new ≡ without self.old address }
+    {
+        drop_address(&mut self.words, address);
+    }
+
     /// Closes the calls whose return address is below the stack pointer (AVMA): it has been taken from the stack.
     pub(crate) fn close_below(&mut self, sp: u64)
         ensures { self.new ≡ filter (λ word. nat_le sp word) self.old }
@@ -79,4 +86,11 @@ fn close_below(words: &mut ArrayVec<u64, 8>, sp: u64)
     ensures { words.new.items ≡ filter (λ word. nat_le sp word) words.old.items }
 {
     words.retain(|word| sp <= *word);
+}
+
+/// Drops an address (AVMA).
+fn drop_address(words: &mut ArrayVec<u64, 8>, address: u64)
+    ensures { words.new.items ≡ filter (λ word. not (word == address)) words.old.items }
+{
+    words.retain(|word| *word != address);
 }

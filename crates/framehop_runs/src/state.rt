@@ -24,7 +24,7 @@ pub struct State {
     pub writes: Writes,
     /// The calls that the run has entered and not returned from.
     pub calls: Calls,
-    /// The addresses after all calls that it has entered (AVMA).
+    /// The addresses (AVMA) after the calls that it has entered and to which it has not returned.
     pub after_calls: Calls,
     /// The address after the highest conditional jump that the run has taken back, or has met (AVMA), or 0.
     pub looped: u64,

@@ -311,11 +311,12 @@ impl State {
         if self.is_own_return(address) {
             return Step::Returns;
         }
+        self.after_calls.forget(address);
         Step::Goes
     }
 
     /// Returns whether a return to an address (AVMA) is the function's own: no call of the run is open, and the address is
-    /// after none that it has entered, which may have moved its return address on the stack.
+    /// after none that it has entered and not returned from, which may have moved its return address on the stack.
     fn is_own_return(&self, address: u64) -> bool
         ensures { result ≡ is_own_return self.now address }
     {
