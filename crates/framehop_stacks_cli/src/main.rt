@@ -115,31 +115,6 @@ fn run_with_program<'a, 'w>(
     asked: &'a Asked<'w>,
     program: Option<Program<'w>>,
 ) -> Result<u8> {
-    let sources = sources_of(rt, matches, program);
-    let request = Request {
-        rt,
-        sources: &sources,
-        asked,
-        options,
-        form: form(matches),
-    };
-    let paths = matches.get_strs("file").unwrap_or(&[]);
-    let status = if matches.get_flag("diff") {
-        print_changes(request, paths)?
-    } else {
-        print_all(request, paths)?
-    };
-    tell_unmapped(rt, sources.disk.program.as_ref())?;
-    Ok(status)
-}
-
-/// Returns the files and the maps by which stacks get their names.
-fn sources_of<'a, 'w>(
-    rt: &'a HostRuntime,
-    matches: &'a ArgMatches<'w>,
-    program: Option<Program<'w>>,
-) -> Sources<'a, 'w> {
-    let alloc = rt.alloc();
     let disk = Disk {
         rt,
         roots: matches.get_strs("root").unwrap_or(&[""]),
@@ -148,12 +123,32 @@ fn sources_of<'a, 'w>(
         home: home(rt),
         vdso: matches.get_str("vdso"),
         program,
-        known_names: KnownNames::new(alloc),
-        read_paths: ReadPaths::new(alloc),
+        known_names: KnownNames::new(rt.alloc()),
+        read_paths: ReadPaths::new(rt.alloc()),
     };
-    Sources {
+    let sources = Sources {
         disk,
         perf_map: perf_map(matches),
+    };
+    let request = Request {
+        rt,
+        sources: &sources,
+        asked,
+        options,
+        form: form(matches),
+    };
+    let status = print_paths(request, matches)?;
+    tell_unmapped(rt, sources.disk.program.as_ref())?;
+    Ok(status)
+}
+
+/// Prints what a request asks for, of the files of a command line.
+fn print_paths(request: Request<'_, '_>, matches: &ArgMatches<'_>) -> Result<u8> {
+    let paths = matches.get_strs("file").unwrap_or(&[]);
+    if matches.get_flag("diff") {
+        print_changes(request, paths)
+    } else {
+        print_all(request, paths)
     }
 }
 
