@@ -97,78 +97,118 @@ pub fn check_file(
     options: Options,
     allowed: &Allowed<'_>,
 ) -> Result<Checked, AllocError> {
-    let (machine, parts, rows) = match open(alloc, file) {
-        Ok(opened) => opened,
-        Err(refusal) => return Ok(Checked::Refused(refusal)),
-    };
-    let Some((contents, svma, kind)) = rows else {
-        return Ok(Checked::Refused(Refusal::NoRows));
-    };
-    let bases = BaseAddresses {
-        eh_frame: svma,
-        ..BaseAddresses::default()
-    };
-    let section = UnwindSection::new(contents.as_slice(), kind, &bases);
-    let mut findings = Findings {
-        report: Report::new(alloc),
-        others: Others {
-            allowed: 0,
-            unreadable: 0,
-            without_code: 0,
-            sharing: 0,
-        },
-        room: Room::new(file.len(), contents.len()),
-        text: String::new(alloc),
-    };
-    match machine {
-        EM_X86_64 => check_section::<CodeX86_64>(
-            alloc,
-            &section,
-            &parts,
-            options,
-            allowed,
-            &mut findings,
-        )?,
-        EM_AARCH64 => check_section::<CodeAarch64>(
-            alloc,
-            &section,
-            &parts,
-            options,
-            allowed,
-            &mut findings,
-        )?,
-        _ => return Ok(Checked::Refused(Refusal::Machine(machine))),
+    match open(alloc, file) {
+        Ok(opened) => check_opened(alloc, path, file.len(), &opened, options, allowed),
+        Err(refusal) => Ok(Checked::Refused(refusal)),
     }
-    let counts: Counts = findings.report.counts;
-    let others = findings.others;
-    let mut text = findings.text;
-    push_summary(path, counts, others, &mut text)?;
-    let is_good = counts.alarmed == others.allowed && others.unreadable == 0 && others.sharing == 0;
-    Ok(Checked::Text { text, is_good })
 }
 
-/// The bytes of the section that has the rows, its address (SVMA), and its kind.
-type RowsSection = (Vec<u8>, u64, UnwindSectionType);
+/// Returns the lines for a file of a size, by what it has to be checked by.
+fn check_opened(
+    alloc: Global,
+    path: &str,
+    size: usize,
+    opened: &Opened<'_>,
+    options: Options,
+    allowed: &Allowed<'_>,
+) -> Result<Checked, AllocError> {
+    let room = Room::new(size, opened.rows.contents.len());
+    let mut findings = Findings::new(alloc, room);
+    if check_rows(alloc, opened, options, allowed, &mut findings)? {
+        findings.into_checked(path)
+    } else {
+        Ok(Checked::Refused(Refusal::Machine(opened.machine)))
+    }
+}
 
-/// Reads what a file has to be checked by: its machine, its parts, and the section that has the rows.
-fn open(alloc: Global, file: &[u8]) -> Result<(u16, Parts<'_>, Option<RowsSection>), Refusal> {
+/// Checks all FDEs of a file, by its machine. Returns whether that is x86_64 or aarch64.
+fn check_rows(
+    alloc: Global,
+    opened: &Opened<'_>,
+    options: Options,
+    allowed: &Allowed<'_>,
+    findings: &mut Findings,
+) -> Result<bool, AllocError> {
+    let (parts, rows) = (&opened.parts, &opened.rows);
+    let bases = BaseAddresses {
+        eh_frame: rows.address,
+        ..BaseAddresses::default()
+    };
+    let section = UnwindSection::new(rows.contents.as_slice(), rows.kind, &bases);
+    match opened.machine {
+        EM_X86_64 => {
+            check_section::<CodeX86_64>(alloc, &section, parts, options, allowed, findings)?;
+            Ok(true)
+        }
+        EM_AARCH64 => {
+            check_section::<CodeAarch64>(alloc, &section, parts, options, allowed, findings)?;
+            Ok(true)
+        }
+        _ => Ok(false),
+    }
+}
+
+/// What a file has to be checked by.
+#[derive(Drop)]
+struct Opened<'a> {
+    machine: u16,
+    parts: Parts<'a>,
+    rows: Rows,
+}
+
+/// The section that has the rows.
+#[derive(Drop)]
+struct Rows {
+    contents: Vec<u8>,
+    /// Its first address (SVMA).
+    address: u64,
+    kind: UnwindSectionType,
+}
+
+/// Reads what a file has to be checked by.
+fn open(alloc: Global, file: &[u8]) -> Result<Opened<'_>, Refusal> {
     let header = read_file_header(file)?;
     let sections = read_section_headers(alloc, file, header)?;
     let names = read_section_names(file, header, sections.as_slice())?;
-    let (symbols, strings) = read_symbols(alloc, file, sections.as_slice(), names)?;
-    let rows = match rows_section(sections.as_slice(), names) {
-        Some((section, kind)) => {
-            let contents = read_decompressed(alloc, file, section)?;
-            Some((contents, section.sh_addr, kind))
-        }
-        None => None,
-    };
-    let parts = Parts {
-        code: code_sections(alloc, file, sections.as_slice()).map_err(ElfError::from)?,
+    let parts = read_parts(alloc, file, sections.as_slice(), names)?;
+    let rows = read_rows(alloc, file, sections.as_slice(), names)?;
+    Ok(Opened {
+        machine: header.e_machine,
+        parts,
+        rows,
+    })
+}
+
+/// Reads the code and the symbols of a file.
+fn read_parts<'a>(
+    alloc: Global,
+    file: &'a [u8],
+    sections: &[SectionHeader],
+    names: &[u8],
+) -> Result<Parts<'a>, ElfError> {
+    let (symbols, strings) = read_symbols(alloc, file, sections, names)?;
+    Ok(Parts {
+        code: code_sections(alloc, file, sections)?,
         symbols,
         strings,
+    })
+}
+
+/// Reads the section that has the rows.
+fn read_rows(
+    alloc: Global,
+    file: &[u8],
+    sections: &[SectionHeader],
+    names: &[u8],
+) -> Result<Rows, Refusal> {
+    let Some((section, kind)) = rows_section(sections, names) else {
+        return Err(Refusal::NoRows);
     };
-    Ok((header.e_machine, parts, rows))
+    Ok(Rows {
+        contents: read_decompressed(alloc, file, section)?,
+        address: section.sh_addr,
+        kind,
+    })
 }
 
 /// What a check of a file gives.
@@ -212,7 +252,7 @@ pub struct Others {
 
 /// How much is checked yet: as much as FDEs take that do not share code, and few instructions of a CIE.
 #[derive(Clone, Copy)]
-struct Room {
+pub struct Room {
     /// Bytes of code.
     code: usize,
     /// Bytes of instructions of CIEs, those of an FDE's at each FDE.
@@ -222,7 +262,7 @@ struct Room {
 impl Room {
     /// Returns the room for a file whose section of rows has a size, in bytes as the file's. In a file that a linker wrote no
     /// FDE shares code with another, and the instructions of a CIE take fewer bytes than an FDE.
-    fn new(file_size: usize, section_size: usize) -> Self {
+    pub fn new(file_size: usize, section_size: usize) -> Self {
         Room {
             code: file_size.saturating_mul(2),
             instructions: section_size.saturating_mul(4),
@@ -243,11 +283,40 @@ impl Room {
 
 /// What the check of a file has found so far.
 #[derive(Drop)]
-struct Findings {
-    report: Report,
-    others: Others,
+pub struct Findings {
+    pub report: Report,
+    pub others: Others,
     room: Room,
-    text: String,
+    pub text: String,
+}
+
+impl Findings {
+    /// Returns no findings.
+    pub fn new(alloc: Global, room: Room) -> Self {
+        Findings {
+            report: Report::new(alloc),
+            others: Others {
+                allowed: 0,
+                unreadable: 0,
+                without_code: 0,
+                sharing: 0,
+            },
+            room,
+            text: String::new(alloc),
+        }
+    }
+
+    /// Returns the lines with the summary after them, and whether there are no alarms and each entry was read.
+    pub fn into_checked(self, path: &str) -> Result<Checked, AllocError> {
+        let counts: Counts = self.report.counts;
+        let others = self.others;
+        let mut text = self.text;
+        push_summary(path, counts, others, &mut text)?;
+        let is_good = counts.alarmed == others.allowed
+            && others.unreadable == 0
+            && others.sharing == 0;
+        Ok(Checked::Text { text, is_good })
+    }
 }
 
 /// Returns the symbols of a file's functions, and their names.
@@ -295,6 +364,18 @@ fn check_section<C: Code>(
     findings: &mut Findings,
 ) -> Result<(), AllocError> {
     let mut checker = Checker::new(alloc)?;
+    check_entries::<C>(&mut checker, section, parts, options, allowed, findings)
+}
+
+/// Checks the FDEs of a section, up to an entry that can't be read or ends the section.
+fn check_entries<C: Code>(
+    checker: &mut Checker<StoreOnHeap>,
+    section: &UnwindSection<'_>,
+    parts: &Parts<'_>,
+    options: Options,
+    allowed: &Allowed<'_>,
+    findings: &mut Findings,
+) -> Result<(), AllocError> {
     let mut at = 0;
     for _count in 0..section.bytes.len() {
         if at >= section.bytes.len() {
@@ -307,7 +388,7 @@ fn check_section<C: Code>(
         if extent.is_zero_length() && section.section_type == UnwindSectionType::EhFrame {
             return Ok(());
         }
-        check_at::<C>(&mut checker, section, parts, at, options, allowed, findings)?;
+        check_at::<C>(checker, section, parts, at, options, allowed, findings)?;
         at = extent.end;
     }
     Ok(())

@@ -1,8 +1,7 @@
 //! The check of a PE file: the unwind codes of each entry of its function table.
-use crate::file::{Checked, Options, Others, Refusal};
-use crate::text::{push_alarm, push_note, push_summary};
+use crate::file::{Checked, Findings, Options, Refusal, Room};
+use crate::text::{push_alarm, push_note};
 use framehop_check::prolog::check_prolog;
-use framehop_check::report::Report;
 use framehop_code::x86_64::CodeX86_64;
 use framehop_pe::unwind_info::function_table::RuntimeFunction;
 use framehop_pe::unwind_info::info::{PrologInfo, UnwindInfo, skip_bytes};
@@ -44,41 +43,46 @@ pub fn check_pe_file(
     file: &[u8],
     options: Options,
 ) -> Result<Checked, AllocError> {
-    let image = match open(alloc, file) {
-        Ok(image) => image,
-        Err(error) => return Ok(Checked::Refused(Refusal::Pe(error))),
-    };
-    if !matches!(image.header.machine, Machine::X86_64) {
-        return Ok(Checked::Refused(Refusal::PeMachine));
+    match open(alloc, file) {
+        Ok(image) if !matches!(image.header.machine, Machine::X86_64) => {
+            Ok(Checked::Refused(Refusal::PeMachine))
+        }
+        Ok(image) => match image.table {
+            Some(table) => check_image(alloc, path, &image, table, options),
+            None => Ok(Checked::Refused(Refusal::NoFunctionTable)),
+        },
+        Err(error) => Ok(Checked::Refused(Refusal::Pe(error))),
     }
-    let Some(table) = image.table else {
-        return Ok(Checked::Refused(Refusal::NoFunctionTable));
-    };
-    let mut report = Report::new(alloc);
-    let mut others = Others {
-        allowed: 0,
-        unreadable: 0,
-        without_code: 0,
-        sharing: 0,
-    };
-    let mut text = String::new(alloc);
+}
+
+/// Returns the lines for the entries of a function table, and whether there are no alarms and each was read.
+fn check_image(
+    alloc: Global,
+    path: &str,
+    image: &Image<'_>,
+    table: &[u8],
+    options: Options,
+) -> Result<Checked, AllocError> {
+    let mut findings = Findings::new(alloc, Room::new(0, 0));
+    check_table(image, table, options, &mut findings)?;
+    findings.into_checked(path)
+}
+
+/// Checks the entries of a function table.
+fn check_table(
+    image: &Image<'_>,
+    table: &[u8],
+    options: Options,
+    findings: &mut Findings,
+) -> Result<(), AllocError> {
     let mut rest = table;
     for _count in 0..table.len() / ENTRY_SIZE {
         if let Some(function) = RuntimeFunction::parse(rest) {
-            check_entry(
-                &image,
-                function,
-                options,
-                &mut report,
-                &mut others,
-                &mut text,
-            )?;
+            check_entry(image, function, options, findings)?;
         }
         rest = skip_bytes(rest, ENTRY_SIZE);
     }
-    push_summary(path, report.counts, others, &mut text)?;
-    let is_good = report.counts.alarmed == 0 && others.unreadable == 0;
-    Ok(Checked::Text { text, is_good })
+    Ok(())
 }
 
 /// Reads what a file has to be checked by.
@@ -99,34 +103,42 @@ fn check_entry(
     image: &Image<'_>,
     function: RuntimeFunction,
     options: Options,
-    report: &mut Report,
-    others: &mut Others,
-    text: &mut String,
+    findings: &mut Findings,
 ) -> Result<(), AllocError> {
     let Some(info) = info_at(image, function.unwind_info_address) else {
-        others.unreadable = others.unreadable.saturating_add(1);
+        findings.others.unreadable = findings.others.unreadable.saturating_add(1);
         return Ok(());
     };
     let Some(code) = code_of(image, function) else {
-        others.without_code = others.without_code.saturating_add(1);
+        findings.others.without_code = findings.others.without_code.saturating_add(1);
         return Ok(());
     };
     let begin = image
         .header
         .image_base
         .saturating_add(u64::from(function.begin_address));
-    report.alarms.clear();
-    report.notes.clear();
-    check_prolog(begin, &info, code, report)?;
+    findings.report.alarms.clear();
+    findings.report.notes.clear();
+    check_prolog(begin, &info, code, &mut findings.report)?;
     if options.is_quiet {
         return Ok(());
     }
-    for alarm in report.alarms.iter() {
-        push_alarm::<CodeX86_64>(None, begin, code, *alarm, text)?;
+    push_lines(begin, code, options, findings)
+}
+
+/// Appends the lines of the function that was checked last.
+fn push_lines(
+    begin: u64,
+    code: &[u8],
+    options: Options,
+    findings: &mut Findings,
+) -> Result<(), AllocError> {
+    for alarm in findings.report.alarms.iter() {
+        push_alarm::<CodeX86_64>(None, begin, code, *alarm, &mut findings.text)?;
     }
     if options.has_notes {
-        for address in report.notes.iter() {
-            push_note(None, begin, *address, text)?;
+        for address in findings.report.notes.iter() {
+            push_note(None, begin, *address, &mut findings.text)?;
         }
     }
     Ok(())

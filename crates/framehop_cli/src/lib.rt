@@ -10,5 +10,6 @@ pub mod printed;
 
 pub use command_line::usage;
 pub use failure::{Failure, Result, exit_code};
-pub use output::StandardOutput;
+pub use file::read_or_tell;
+pub use output::{StandardOutput, print_text, tell};
 pub use printed::Printed;

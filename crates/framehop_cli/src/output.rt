@@ -1,6 +1,23 @@
-//! Standard output.
+//! Standard output, and what is said on standard error.
+use crate::failure::Result;
+use crate::printed::Printed;
+use std::fmt::Display;
 use std::io;
 use std::io::{ErrorKind, Write};
+
+/// Prints a text.
+pub fn print_text(rt: &HostRuntime, text: &str) -> Result<()> {
+    let mut out = StandardOutput { rt };
+    io::Write::write_all(&mut out, text.as_bytes())?;
+    io::Write::flush(&mut out)?;
+    Ok(())
+}
+
+/// Says something of a file, by its path, in a line after the program's name.
+pub fn tell<D: Display + Drop>(rt: &HostRuntime, program: &str, path: &str, what: D) -> Result<()> {
+    eprintln!(rt; "{program}: {}: {what}", Printed(path))?;
+    Ok(())
+}
 
 /// Standard output. What is written after its reader has closed it is lost, which is no error: the reader wants no more.
 #[derive(Clone, Copy, Drop)]

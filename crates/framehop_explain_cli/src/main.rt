@@ -2,10 +2,9 @@
 //! ELF file or a PE file has to unwind by.
 #![tactic(auto)]
 
-use clap::{Arg, ArgAction, Command};
+use clap::{Arg, ArgAction, ArgMatches, Command};
 use either::{Either, Left, Right};
-use framehop_cli::file::read_regular;
-use framehop_cli::{Failure, Printed, Result, StandardOutput, exit_code, usage};
+use framehop_cli::{Failure, Result, exit_code, print_text, read_or_tell, tell, usage};
 use framehop_explain_program::{FileProblem, explain_file, explain_program};
 use framehop_walk::{Input, Output};
 use std::alloc::Global;
@@ -14,91 +13,114 @@ use std::io::Stdin;
 use std::process::ExitCode;
 use std::{env, fs, io};
 
+/// The program's name.
+const PROGRAM: &str = "framehop-explain";
+
 /// What the program does.
 const ABOUT: &str =
     "Carries out the commands of framehop-walk and prints its replies, with a note under each module and each frame: the kind of unwind data, and where the frame came from.";
 
 fn main(rt: HostRuntime) -> ExitCode {
-    exit_code(&rt, "framehop-explain", run(&rt))
+    exit_code(&rt, PROGRAM, run(&rt))
 }
 
 /// Runs the program, and returns its status: 0, 1 where the input is refused, or 2.
 fn run(rt: &HostRuntime) -> Result<u8> {
-    let alloc = rt.alloc();
-    let words: Vec<String> = env::args(rt)?.collect(alloc)?;
-    let matches = match command(alloc)?.try_get_matches_from(&words) {
-        Ok(matches) => matches,
-        Err(error) => return usage(rt, &error),
-    };
-    let path = matches.get_str("file");
+    let words: Vec<String> = env::args(rt)?.collect(rt.alloc())?;
+    match command(rt.alloc())?.try_get_matches_from(&words) {
+        Ok(matches) => run_matches(rt, &matches),
+        Err(error) => usage(rt, &error),
+    }
+}
+
+/// Returns the command line.
+fn command<'a>(alloc: Global) -> Result<Command<'a>> {
+    let command = Command::new(alloc, PROGRAM)
+        .version("0.16.0 (commit ............)")
+        .about(ABOUT)
+        .arg(elf(alloc))?
+        .arg(file(alloc))?
+        .arg(addresses(alloc))?;
+    Ok(command)
+}
+
+/// Returns the option by which a file is explained.
+fn elf<'a>(alloc: Global) -> Arg<'a> {
+    Arg::new(alloc, "elf")
+        .long("elf")
+        .help(
+            "Print what an ELF file or a PE file has to unwind by: all its functions, or the row and the rule of addresses",
+        )
+        .action(ArgAction::SetTrue)
+}
+
+/// Returns the argument that names the file.
+fn file<'a>(alloc: Global) -> Arg<'a> {
+    Arg::new(alloc, "file")
+        .value_name("FILE")
+        .help("Commands in JSON [default: standard input]; with --elf an ELF file or a PE file")
+        .action(ArgAction::Set)
+}
+
+/// Returns the argument that names addresses.
+fn addresses<'a>(alloc: Global) -> Arg<'a> {
+    Arg::new(alloc, "address")
+        .value_name("ADDRESS")
+        .num_args(0..)
+        .help("Addresses that the ELF file states, or RVAs of the PE file, in hexadecimal")
+        .action(ArgAction::Append)
+}
+
+/// Explains what a command line names, and returns the status.
+fn run_matches(rt: &HostRuntime, matches: &ArgMatches<'_>) -> Result<u8> {
+    let (path, is_elf) = (matches.get_str("file"), matches.get_flag("elf"));
     let addresses = matches.get_strs("address").unwrap_or(&[]);
     match path {
-        Some(path) if matches.get_flag("elf") => print_file(rt, path, addresses),
-        _ if matches.get_flag("elf") || !addresses.is_empty() => {
-            eprintln!(rt; "framehop-explain: addresses are asked of a FILE, with --elf")?;
+        Some(path) if is_elf => print_file(rt, path, addresses),
+        _ if is_elf || !addresses.is_empty() => {
+            eprintln!(rt; "{PROGRAM}: addresses are asked of a FILE, with --elf")?;
             Ok(2)
         }
         _ => explain(rt, path),
     }
 }
 
-/// Returns the command line.
-fn command<'a>(alloc: Global) -> Result<Command<'a>> {
-    let elf = Arg::new(alloc, "elf")
-        .long("elf")
-        .help(
-            "Print what an ELF file or a PE file has to unwind by: all its functions, or the row and the rule of addresses",
-        )
-        .action(ArgAction::SetTrue);
-    let file = Arg::new(alloc, "file")
-        .value_name("FILE")
-        .help("Commands in JSON [default: standard input]; with --elf an ELF file or a PE file")
-        .action(ArgAction::Set);
-    let addresses = Arg::new(alloc, "address")
-        .value_name("ADDRESS")
-        .num_args(0..)
-        .help("Addresses that the ELF file states, or RVAs of the PE file, in hexadecimal")
-        .action(ArgAction::Append);
-    let command = Command::new(alloc, "framehop-explain")
-        .version("0.16.0 (commit ............)")
-        .about(ABOUT)
-        .arg(elf)?
-        .arg(file)?
-        .arg(addresses)?;
-    Ok(command)
-}
-
 /// Prints what an ELF file or a PE file has to unwind by.
 fn print_file(rt: &HostRuntime, path: &str, texts: &[&str]) -> Result<u8> {
-    let Some(addresses) = parse_addresses(rt.alloc(), texts)? else {
-        eprintln!(rt; "framehop-explain: an address is no hexadecimal number of 64 bits")?;
-        return Ok(2);
-    };
-    let bytes = match read_regular(rt, path).map_err(Failure::from) {
-        Ok(Some(bytes)) => bytes,
-        Ok(None) => {
-            eprintln!(rt;
-                "framehop-explain: {}: no regular file of at most 4 GiB",
-                Printed(path)
-            )?;
-            return Ok(1);
+    match parse_addresses(rt.alloc(), texts)? {
+        Some(addresses) => print_addresses(rt, path, addresses.as_slice()),
+        None => {
+            eprintln!(rt; "{PROGRAM}: an address is no hexadecimal number of 64 bits")?;
+            Ok(2)
         }
-        Err(Failure::Io(error)) => {
-            eprintln!(rt; "framehop-explain: {}: {error}", Printed(path))?;
-            return Ok(1);
+    }
+}
+
+/// Prints what a file has to unwind by at addresses, or for all its functions where there are none.
+fn print_addresses(rt: &HostRuntime, path: &str, addresses: &[u64]) -> Result<u8> {
+    match read_or_tell(rt, PROGRAM, path)? {
+        Some(bytes) => {
+            let explained = explain_file(rt.alloc(), bytes.as_slice(), addresses);
+            print_explained(rt, path, explained)
         }
-        Err(failure) => return Err(failure),
-    };
-    match explain_file(rt.alloc(), bytes.as_slice(), addresses.as_slice()) {
+        None => Ok(1),
+    }
+}
+
+/// Prints what a file has to unwind by, or why that can't be told.
+fn print_explained(
+    rt: &HostRuntime,
+    path: &str,
+    explained: Result<String, FileProblem>,
+) -> Result<u8> {
+    match explained {
         Ok(text) => {
-            let mut out = StandardOutput { rt };
-            io::Write::write_all(&mut out, text.as_bytes())?;
-            io::Write::flush(&mut out)?;
+            print_text(rt, text.as_str())?;
             Ok(0)
         }
         Err(FileProblem::OutOfMemory) => Err(Failure::OutOfMemory),
         Err(problem) => {
-            eprintln!(rt; "framehop-explain: {}: {problem}", Printed(path))?;
+            tell(rt, PROGRAM, path, problem)?;
             Ok(1)
         }
     }
@@ -119,20 +141,18 @@ fn parse_addresses(alloc: Global, texts: &[&str]) -> Result<Option<Vec<u64>>> {
 
 /// Explains the commands of a file, or of standard input.
 fn explain(rt: &HostRuntime, path: Option<&str>) -> Result<u8> {
-    let reader = match open_input(rt, path) {
-        Ok(reader) => reader,
-        Err(error) => {
-            eprintln!(rt;
-                "framehop-explain: {}: {error}",
-                Printed(path.unwrap_or("standard input"))
-            )?;
-            return Ok(1);
+    match open_input(rt, path) {
+        Ok(reader) => {
+            let mut input = Input::new(reader);
+            let mut out = Output::new(io::writer(rt));
+            let mut err = Output::new(rt.stderr());
+            Ok(explain_program(rt.alloc(), &mut input, &mut out, &mut err))
         }
-    };
-    let mut input = Input::new(reader);
-    let mut out = Output::new(io::writer(rt));
-    let mut err = Output::new(rt.stderr());
-    Ok(explain_program(rt.alloc(), &mut input, &mut out, &mut err))
+        Err(error) => {
+            tell(rt, PROGRAM, path.unwrap_or("standard input"), error)?;
+            Ok(1)
+        }
+    }
 }
 
 /// Opens the file at a path, or standard input for `None`.

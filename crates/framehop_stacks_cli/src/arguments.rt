@@ -1,4 +1,5 @@
 //! The command line.
+use crate::request::Form;
 use clap::{Arg, ArgAction, ArgMatches, Command};
 use framehop_cli::Result;
 use framehop_flame_graph::drawing::{Drawing, Layout};
@@ -248,31 +249,43 @@ pub struct Asked<'a> {
 
 /// Returns which samples are asked for, or `None` where a process or thread is no number, or times are no times.
 pub fn samples_asked<'a>(alloc: Global, matches: &ArgMatches<'a>) -> Result<Option<Asked<'a>>> {
+    let Some(window) = window_asked(alloc, matches)? else {
+        return Ok(None);
+    };
+    let (Some(processes), Some(threads)) = (
+        numbers(alloc, matches, "pid")?,
+        numbers(alloc, matches, "tid")?,
+    ) else {
+        return Ok(None);
+    };
+    Ok(Some(Asked {
+        commands: commands(alloc, matches)?,
+        processes,
+        threads,
+        events: events(alloc, matches)?,
+        window,
+    }))
+}
+
+/// Returns the times that are asked for, if they are times.
+fn window_asked(alloc: Global, matches: &ArgMatches<'_>) -> Result<Option<Window>> {
+    let text = matches.get_str("time").unwrap_or(",");
+    Ok(window_of(alloc, text.as_bytes())?)
+}
+
+/// Returns the names of the threads that are asked for.
+fn commands<'a>(alloc: Global, matches: &ArgMatches<'a>) -> Result<Vec<&'a [u8]>> {
     let mut commands = Vec::new(alloc);
     for name in matches.get_strs("comm").unwrap_or(&[]) {
         commands.push(name.as_bytes())?;
     }
-    let Some(processes) = numbers(alloc, matches, "pid")? else {
-        return Ok(None);
-    };
-    let Some(threads) = numbers(alloc, matches, "tid")? else {
-        return Ok(None);
-    };
-    let mut events = Vec::new(alloc);
-    for name in matches.get_strs("event").unwrap_or(&[]) {
-        events.push(*name)?;
-    }
-    let text = matches.get_str("time").unwrap_or(",");
-    let Some(window) = window_of(alloc, text.as_bytes())? else {
-        return Ok(None);
-    };
-    Ok(Some(Asked {
-        commands,
-        processes,
-        threads,
-        events,
-        window,
-    }))
+    Ok(commands)
+}
+
+/// Returns the names or numbers of the events that are asked for.
+fn events<'a>(alloc: Global, matches: &ArgMatches<'a>) -> Result<Vec<&'a str>> {
+    let asked = matches.get_strs("event").unwrap_or(&[]);
+    Ok(Vec::from_slice(alloc, asked)?)
 }
 
 /// Returns the values of an argument, where they are numbers below 2^32.
@@ -287,16 +300,33 @@ fn numbers(alloc: Global, matches: &ArgMatches<'_>, name: &str) -> Result<Option
     Ok(Some(numbers))
 }
 
+/// Returns in which form the folded stacks of recordings are printed.
+pub fn form<'a>(matches: &ArgMatches<'a>) -> Form<'a> {
+    if matches.get_flag("svg") {
+        Form::Graph(drawing(matches))
+    } else if matches.get_flag("speedscope") {
+        Form::Speedscope(title(matches))
+    } else if matches.get_flag("json") {
+        Form::Json
+    } else {
+        Form::Text
+    }
+}
+
+/// Returns the title of a flame graph or of a profile.
+fn title<'a>(matches: &ArgMatches<'a>) -> &'a str {
+    matches.get_str("title").unwrap_or("Flame Graph")
+}
+
 /// Returns how a flame graph is drawn.
-pub fn drawing<'a>(matches: &ArgMatches<'a>) -> Drawing<'a> {
-    let title = matches.get_str("title").unwrap_or("Flame Graph");
+fn drawing<'a>(matches: &ArgMatches<'a>) -> Drawing<'a> {
     let layout = if matches.get_flag("flame") {
         Layout::Flame
     } else {
         Layout::Icicle
     };
     Drawing {
-        title: title.as_bytes(),
+        title: title(matches).as_bytes(),
         layout,
         script: Some(ZOOM_AND_SEARCH),
     }

@@ -1,17 +1,18 @@
 //! The stacks of core files.
-use crate::core_parts::{CoreParts, ReadMemory, stack_pointers};
-use crate::disk::Disk;
-use crate::input::Kind;
-use crate::messages::Messages;
-use crate::{Form, misuse_of, say_misuse, status_of};
+use crate::minidumps::report_dump;
+use crate::output::status_of_dump;
+use crate::request::{Form, Request, misuse_of, refuse_file};
 use framehop_cli::{Result, StandardOutput};
-use framehop_dump_json::dump_report::Json;
+use framehop_coredump::core_file::Machine;
+use framehop_coredump::registers::{aarch64_registers, code_ptr_auth_mask, x86_64_registers};
+use framehop_disk::core_parts::{CoreParts, ReadMemory};
+use framehop_disk::input::Kind;
+use framehop_disk::messages::Messages;
 use framehop_dump_stacks::core_dump::{read_core_dump, read_core_dump_over};
-use framehop_dump_stacks::dump::Dump;
+use framehop_dump_stacks::dump::{Dump, Registers};
 use framehop_dump_stacks::error::DumpStacksError;
 use framehop_dump_stacks::modules::read_files;
 use framehop_dump_stacks::program::{Written, core_stacks};
-use framehop_dump_stacks::reporting::report_dump_stacks;
 use framehop_memory::left_out::LeftOut;
 use framehop_memory::memory::ProcessMemory;
 use framehop_perf_stacks::run::Options;
@@ -35,24 +36,24 @@ type Stacks = std::result::Result<Option<Written>, DumpStacksError>;
 /// for, and of the files that were mapped those that are asked for. Where more is asked for than was read, nothing is printed, and all is done
 /// again with it. Returns the status, or `None` where nothing is printed: of what is no core file, and of one that is to be
 /// read whole.
-pub fn print_core_parts(
-    rt: &HostRuntime,
-    path: &str,
-    disk: &Disk<'_>,
-    options: Options<'_>,
-    form: Form<'_>,
-) -> Result<Option<u8>> {
-    let Ok(Some(mut core)) = CoreParts::open(rt, path) else {
+pub fn print_core_parts(request: Request<'_, '_>, path: &str) -> Result<Option<u8>> {
+    let Ok(Some(mut core)) = CoreParts::open(request.rt, path) else {
         return Ok(None);
     };
-    if let Some(misuse) = misuse_of(Kind::Core, options, form) {
-        return Ok(Some(say_misuse(rt, path, misuse)?));
+    match misuse_of(Kind::Core, request.options, request.form) {
+        Some(misuse) => Ok(Some(refuse_file(request.rt, path, misuse, 2)?)),
+        None => print_by_rounds(request, path, &mut core),
     }
+}
+
+/// Prints the stacks of the threads of a core file, of which more is read in each round.
+fn print_by_rounds(
+    request: Request<'_, '_>,
+    path: &str,
+    core: &mut CoreParts,
+) -> Result<Option<u8>> {
     for _round in 0..core.most_rounds() {
-        let Ok(Some(memory)) = core.read_memory(rt.alloc()) else {
-            return Ok(None);
-        };
-        match print_read_core(rt, path, core.front(), &memory, disk, options, form)? {
+        match print_round(request, path, core)? {
             Round::Printed(status) => return Ok(Some(status)),
             Round::Asked(addresses) if core.want(addresses.as_slice()) => {}
             _ => return Ok(None),
@@ -61,79 +62,110 @@ pub fn print_core_parts(
     Ok(None)
 }
 
+/// Prints the stacks of the threads of a core file, by the memory of it that is wanted.
+fn print_round(request: Request<'_, '_>, path: &str, core: &mut CoreParts) -> Result<Round> {
+    match core.read_memory(request.rt.alloc()) {
+        Ok(Some(memory)) => print_read_core(request, path, core.front(), &memory),
+        _ => Ok(Round::Refused),
+    }
+}
+
 /// Prints the stacks of the threads of a core file, if they ask for no memory but that which was read.
 fn print_read_core(
-    rt: &HostRuntime,
+    request: Request<'_, '_>,
     path: &str,
     front: &[u8],
     memory: &ReadMemory,
-    disk: &Disk<'_>,
-    options: Options<'_>,
-    form: Form<'_>,
 ) -> Result<Round> {
-    let alloc = rt.alloc();
+    let alloc = request.rt.alloc();
     let (bytes, parts) = (memory.bytes.as_slice(), memory.parts.as_slice());
     let left_out = LeftOut::new(alloc, parts)?;
     let known = ProcessMemory::of_parts(alloc, bytes, parts, &left_out)?;
-    let Ok(dump) = read_core_dump_over(alloc, front, known) else {
-        return Ok(Round::Refused);
-    };
-    for stack_pointer in &stack_pointers(alloc, &dump)? {
-        left_out.note(*stack_pointer);
+    match read_core_dump_over(alloc, front, known) {
+        Ok(dump) => print_dump(request, path, &dump, &left_out),
+        Err(_) => Ok(Round::Refused),
     }
+}
+
+/// Prints the stacks of the threads of a core file that was read, if they ask for no memory that was left out.
+fn print_dump(
+    request: Request<'_, '_>,
+    path: &str,
+    dump: &Dump<'_>,
+    left_out: &LeftOut,
+) -> Result<Round> {
+    let alloc = request.rt.alloc();
+    note_stack_pointers(dump, left_out);
     let asked = left_out.asked(alloc)?;
     if !asked.is_empty() {
         return Ok(Round::Asked(asked));
     }
-    match stacks(rt, &dump, &left_out, disk, options, form) {
+    match stacks(request, dump, left_out) {
         Ok(None) => Ok(Round::Asked(left_out.asked(alloc)?)),
-        stacks => Ok(Round::Printed(print_stacks(rt, path, &stacks)?)),
+        stacks => Ok(Round::Printed(print_stacks(request.rt, path, &stacks)?)),
+    }
+}
+
+/// Notes that memory is asked for at the stack pointers of all threads.
+fn note_stack_pointers(dump: &Dump<'_>, left_out: &LeftOut) {
+    for thread in &dump.threads {
+        if let Some(address) = stack_pointer(dump.machine, thread.registers) {
+            left_out.note(address);
+        }
+    }
+}
+
+/// Returns the stack pointer (AVMA) of a thread of a core file, if it has its registers.
+fn stack_pointer(machine: Machine, registers: Registers<'_>) -> Option<u64> {
+    let Registers::Kernel { values, pac_mask } = registers else {
+        return None;
+    };
+    match machine {
+        Machine::X86_64 => Some(x86_64_registers(values)?.sp()),
+        Machine::Aarch64 => {
+            let (_, regs) = aarch64_registers(code_ptr_auth_mask(pac_mask), values)?;
+            Some(regs.sp())
+        }
     }
 }
 
 /// Prints the stacks of the threads of a core file, by its bytes. Of the files that were mapped those are read that are asked
 /// for.
-pub fn print_core(
-    rt: &HostRuntime,
-    path: &str,
-    bytes: &[u8],
-    disk: &Disk<'_>,
-    options: Options<'_>,
-    form: Form<'_>,
-) -> Result<u8> {
-    let alloc = rt.alloc();
-    let dump = match read_core_dump(alloc, bytes) {
-        Ok(dump) => dump,
-        Err(error) => return status_of(rt, path, Err(error.into())),
-    };
-    let left_out = LeftOut::new(alloc, &[])?;
-    let stacks = stacks(rt, &dump, &left_out, disk, options, form);
-    print_stacks(rt, path, &stacks)
+pub fn print_core(request: Request<'_, '_>, path: &str, bytes: &[u8]) -> Result<u8> {
+    let (rt, alloc) = (request.rt, request.rt.alloc());
+    match read_core_dump(alloc, bytes) {
+        Ok(dump) => {
+            let left_out = LeftOut::new(alloc, &[])?;
+            let stacks = stacks(request, &dump, &left_out);
+            print_stacks(rt, path, &stacks)
+        }
+        Err(error) => status_of_dump(rt, path, Err(error.into())),
+    }
 }
 
 /// Returns what is written of a core file that was read. JSON tells of all its files.
-fn stacks(
-    rt: &HostRuntime,
-    dump: &Dump<'_>,
-    left_out: &LeftOut,
-    disk: &Disk<'_>,
-    options: Options<'_>,
-    form: Form<'_>,
-) -> Stacks {
-    let alloc = rt.alloc();
-    let Options { limit, explain, .. } = options;
-    if !matches!(form, Form::Json) {
-        return core_stacks(alloc, dump, left_out, disk, limit, explain);
+fn stacks(request: Request<'_, '_>, dump: &Dump<'_>, left_out: &LeftOut) -> Stacks {
+    let alloc = request.rt.alloc();
+    let Options { limit, explain, .. } = request.options;
+    match request.form {
+        Form::Json => reported(request, dump, left_out),
+        _ => core_stacks(alloc, dump, left_out, request.sources, limit, explain),
     }
-    let files = read_files(alloc, dump, disk)?;
-    let (mut out, mut said) = (Vec::new(alloc), Vec::new(alloc));
-    let paths = disk.paths_of(&files)?;
-    let json = Json {
-        paths: paths.as_slice(),
+}
+
+/// Returns the JSON of a core file that was read, and what was missing.
+fn reported(request: Request<'_, '_>, dump: &Dump<'_>, left_out: &LeftOut) -> Stacks {
+    let (alloc, sources) = (request.rt.alloc(), request.sources);
+    let mut written = Written {
+        out: Vec::new(alloc),
+        said: Vec::new(alloc),
     };
-    report_dump_stacks(alloc, dump, &files, limit, &json, &mut out, &mut said)?;
+    let files = read_files(alloc, dump, sources)?;
+    let limit = request.options.limit;
+    let (out, said) = (&mut written.out, &mut written.said);
+    report_dump(alloc, dump, &files, sources, limit, out, said)?;
     if left_out.asked(alloc)?.is_empty() {
-        Ok(Some(Written { out, said }))
+        Ok(Some(written))
     } else {
         Ok(None)
     }
@@ -141,15 +173,19 @@ fn stacks(
 
 /// Prints what is written of a core file and what is said of it, or why it is refused. Returns the status.
 fn print_stacks(rt: &HostRuntime, path: &str, stacks: &Stacks) -> Result<u8> {
-    let written = match stacks {
-        Ok(Some(written)) => written,
-        Ok(None) => return status_of(rt, path, Ok(())),
-        Err(error) => return status_of(rt, path, Err(*error)),
-    };
+    match stacks {
+        Ok(Some(written)) => print_written(rt, path, written),
+        Ok(None) => Ok(0),
+        Err(error) => status_of_dump(rt, path, Err(*error)),
+    }
+}
+
+/// Prints what is written of a core file and what is said of it. Returns the status.
+fn print_written(rt: &HostRuntime, path: &str, written: &Written) -> Result<u8> {
     let printed = StandardOutput { rt }.write_all(written.out.as_slice());
     Messages { rt }.write_all(written.said.as_slice())?;
     match printed {
-        Ok(()) => status_of(rt, path, Ok(())),
-        Err(error) => status_of(rt, path, Err(error.into())),
+        Ok(()) => Ok(0),
+        Err(error) => status_of_dump(rt, path, Err(error.into())),
     }
 }

@@ -1,5 +1,5 @@
 //! The stacks of recordings as JSON.
-use crate::disk::Disk;
+use crate::sources::Sources;
 use framehop_folded::folded::Folded;
 use framehop_perf_stacks::choice::{Choice, choose};
 use framehop_perf_stacks::error::StacksError;
@@ -15,14 +15,14 @@ use std::io::Write;
 pub fn write_recording_json<B: SampleSource, W: Write, E: Write>(
     alloc: Global,
     recording: &Recording<'_>,
-    disk: &Disk<'_>,
+    sources: &Sources<'_, '_>,
     samples: &B,
     options: Options<'_>,
     out: &mut W,
     err: &mut E,
 ) -> Result<Unwound, StacksError> {
-    let files = read_files(alloc, recording, disk)?;
-    let paths = disk.paths_of(&files)?;
+    let files = read_files(alloc, recording, sources)?;
+    let paths = sources.disk.paths_of(&files)?;
     let ended = write_json(
         alloc,
         recording,
@@ -43,12 +43,12 @@ pub fn write_recording_json<B: SampleSource, W: Write, E: Write>(
 pub fn write_json_of<W: Write, E: Write>(
     alloc: Global,
     bytes: &[u8],
-    disk: &Disk<'_>,
+    sources: &Sources<'_, '_>,
     choice: &Choice<'_>,
     options: Options<'_>,
     out: &mut W,
     err: &mut E,
 ) -> Result<Unwound, StacksError> {
     let recording = choose(alloc, read_recording(alloc, bytes)?, choice)?;
-    write_recording_json(alloc, &recording, disk, &InMemory, options, out, err)
+    write_recording_json(alloc, &recording, sources, &InMemory, options, out, err)
 }

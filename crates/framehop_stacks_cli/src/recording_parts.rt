@@ -52,33 +52,29 @@ impl RecordingParts {
         if !metadata.is_file() || metadata.len() < SMALLEST_FILE {
             return Ok(None);
         }
-        let (alloc, size) = (rt.alloc(), metadata.len());
         let file = File::open(rt, path)?;
-        let start = read_at(alloc, &file, 0, HEADER_SIZE)?;
-        let Ok(header) = read_header(start.as_slice()) else {
+        RecordingParts::read(rt.alloc(), file, metadata.len())
+    }
+
+    /// Reads what is before and after the records of a recording of a size.
+    fn read(alloc: Global, file: File, size: u64) -> io::Result<Option<RecordingParts>> {
+        let Some(header) = read_header_of(alloc, &file)? else {
             return Ok(None);
         };
         let records = header.records;
-        let end = records.offset.saturating_add(records.size);
-        if end > size || size - end > LARGEST_FRAME || records.offset > LARGEST_FRAME {
-            return Ok(None);
+        match read_frame(alloc, &file, size, &header)? {
+            Some(frame) => Ok(Some(RecordingParts {
+                file,
+                size,
+                records,
+                frame,
+                header: Header {
+                    records: Section { size: 0, ..records },
+                    ..header
+                },
+            })),
+            None => Ok(None),
         }
-        let mut frame = read_at(alloc, &file, 0, records.offset)?;
-        let after = read_at(alloc, &file, end, size - end)?;
-        frame.extend_from_slice(after.as_slice())?;
-        if !move_sections(frame.as_mut_slice(), &header) {
-            return Ok(None);
-        }
-        Ok(Some(RecordingParts {
-            file,
-            size,
-            records,
-            frame,
-            header: Header {
-                records: Section { size: 0, ..records },
-                ..header
-            },
-        }))
     }
 
     /// Returns its size, in bytes.
@@ -110,17 +106,10 @@ impl RecordingParts {
         let (mut at, mut left) = (self.records.offset, self.records.size);
         for _piece in 0..self.records.size {
             let size = left.min(PIECE);
-            piece.resize(size as usize, 0u8)?;
-            self.file.read_exact_at(piece.as_mut_slice(), at)?;
-            let section = Section { offset: 0, size };
-            let Ok(read) = read_records(alloc, piece.as_slice(), section) else {
-                return Err(ErrorKind::OutOfMemory.into());
-            };
-            for record in &read.records {
-                let offset = at.saturating_add(record.offset);
-                kept.push(alloc, events, Record { offset, ..*record })?;
-            }
-            let Some(taken) = size_of_whole_records(size, size == left, read.refusal) else {
+            self.fill(&mut piece, at, size)?;
+            let is_last = size == left;
+            let taken = keep_records(alloc, events, piece.as_slice(), at, is_last, &mut kept)?;
+            let Some(taken) = taken else {
                 return Ok(None);
             };
             at = at.saturating_add(taken);
@@ -131,6 +120,32 @@ impl RecordingParts {
         }
         Ok(Some(kept))
     }
+
+    /// Reads so many bytes from an offset on, in the place of what is in a piece.
+    fn fill(&self, piece: &mut Vec<u8>, at: u64, size: u64) -> io::Result<()> {
+        piece.resize(size as usize, 0u8)?;
+        self.file.read_exact_at(piece.as_mut_slice(), at)
+    }
+}
+
+/// Keeps the whole records of a piece, which is at an offset. Returns how many bytes they take, or `None` where one is refused.
+fn keep_records(
+    alloc: Global,
+    events: &Events<'_>,
+    piece: &[u8],
+    at: u64,
+    is_last: bool,
+    kept: &mut KeptRecords,
+) -> io::Result<Option<u64>> {
+    let size = piece.len() as u64;
+    let Ok(read) = read_records(alloc, piece, Section { offset: 0, size }) else {
+        return Err(ErrorKind::OutOfMemory.into());
+    };
+    for record in &read.records {
+        let offset = at.saturating_add(record.offset);
+        kept.push(alloc, events, Record { offset, ..*record })?;
+    }
+    Ok(size_of_whole_records(size, is_last, read.refusal))
 }
 
 /// The bodies of a recording's samples in its file.
@@ -186,6 +201,35 @@ fn size_of_whole_records(size: u64, is_last: bool, refusal: Option<RecordingErro
         None => Some(size),
         Some(RecordingError::Eof { offset }) if !is_last && offset > 0 => Some(offset),
         Some(_) => None,
+    }
+}
+
+/// Reads the header of a recording.
+fn read_header_of(alloc: Global, file: &File) -> io::Result<Option<Header>> {
+    let start = read_at(alloc, file, 0, HEADER_SIZE)?;
+    Ok(read_header(start.as_slice()).ok())
+}
+
+/// Reads what is before and after the records of a recording of a size, as a recording that has none. `None` of one that is not
+/// as `perf record` writes it.
+fn read_frame(
+    alloc: Global,
+    file: &File,
+    size: u64,
+    header: &Header,
+) -> io::Result<Option<Vec<u8>>> {
+    let records = header.records;
+    let end = records.offset.saturating_add(records.size);
+    if end > size || size - end > LARGEST_FRAME || records.offset > LARGEST_FRAME {
+        return Ok(None);
+    }
+    let mut frame = read_at(alloc, file, 0, records.offset)?;
+    let after = read_at(alloc, file, end, size - end)?;
+    frame.extend_from_slice(after.as_slice())?;
+    if move_sections(frame.as_mut_slice(), header) {
+        Ok(Some(frame))
+    } else {
+        Ok(None)
     }
 }
 

@@ -1,7 +1,7 @@
 //! Folded stacks as speedscope reads them.
 use framehop_cli::Result;
 use framehop_folded::folded::Folded;
-use serde_json::{Number, Value, json};
+use serde_json::{Map, Number, Value, put};
 use std::alloc::Global;
 use std::collections::BTreeMap;
 
@@ -18,16 +18,27 @@ struct Frames {
 impl Frames {
     /// Returns the number of a frame, which is added where it is new.
     fn number_of(&mut self, alloc: Global, name: &[u8]) -> Result<usize> {
-        if let Some(number) = self.numbers.get(name) {
-            return Ok(*number);
+        match self.numbers.get(name) {
+            Some(number) => Ok(*number),
+            None => self.add(alloc, name),
         }
+    }
+
+    /// Adds a frame, and returns its number.
+    fn add(&mut self, alloc: Global, name: &[u8]) -> Result<usize> {
         let number = self.list.len();
-        let text = String::from_utf8_lossy(alloc, name)?;
-        self.list.push(json!(in alloc; {"name": text})?)?;
-        let name = Vec::from_slice(alloc, name)?;
-        self.numbers.insert(name, number)?;
+        self.list.push(frame_value(alloc, name)?)?;
+        self.numbers.insert(Vec::from_slice(alloc, name)?, number)?;
         Ok(number)
     }
+}
+
+/// Returns a frame as speedscope reads it.
+fn frame_value(alloc: Global, name: &[u8]) -> Result<Value> {
+    let name = String::from_utf8_lossy(alloc, name)?;
+    let mut members = Map::new(alloc);
+    put(&mut members, alloc, "name", Value::String(name))?;
+    Ok(Value::Object(members))
 }
 
 /// The samples of a profile: stacks as the numbers of their frames, and how often each was sampled.
@@ -56,20 +67,47 @@ impl Profile {
         Ok(())
     }
 
-    /// Returns the profile, of this name, as speedscope reads it. The unit is `none`: a weight is a number of samples.
-    fn into_value(self, alloc: Global, name: &str) -> Result<Value> {
-        let samples = Value::Array(self.samples);
-        let weights = Value::Array(self.weights);
-        Ok(json!(in alloc; {
-            "type": "sampled",
-            "name": name,
-            "unit": "none",
-            "startValue": 0,
-            "endValue": self.total,
-            "samples": samples,
-            "weights": weights
-        })?)
+    /// Returns the profile, of this name, as speedscope reads it.
+    fn into_value(self, alloc: Global, name: &[u8]) -> Result<Value> {
+        let mut members = Map::new(alloc);
+        put_head(alloc, &mut members, name, self.total)?;
+        put(&mut members, alloc, "samples", Value::Array(self.samples))?;
+        put(&mut members, alloc, "weights", Value::Array(self.weights))?;
+        Ok(Value::Object(members))
     }
+}
+
+/// Puts what a profile has besides its samples. The unit is `none`: a weight is a number of samples.
+fn put_head(
+    alloc: Global,
+    members: &mut Map<String, Value>,
+    name: &[u8],
+    total: u64,
+) -> Result<()> {
+    let name = String::from_utf8_lossy(alloc, name)?;
+    put_text(alloc, members, "type", "sampled")?;
+    put(members, alloc, "name", Value::String(name))?;
+    put_text(alloc, members, "unit", "none")?;
+    put_number(alloc, members, "startValue", 0)?;
+    put_number(alloc, members, "endValue", total)
+}
+
+/// Puts a text of a name.
+fn put_text(alloc: Global, members: &mut Map<String, Value>, name: &str, text: &str) -> Result<()> {
+    let text = String::from_str(alloc, text)?;
+    put(members, alloc, name, Value::String(text))?;
+    Ok(())
+}
+
+/// Puts a number of a name.
+fn put_number(
+    alloc: Global,
+    members: &mut Map<String, Value>,
+    name: &str,
+    number: u64,
+) -> Result<()> {
+    put(members, alloc, name, Value::Number(Number::from(number)))?;
+    Ok(())
 }
 
 /// Returns folded stacks as a file of speedscope, in which each stack is a sample, whose weight is its count: one profile, or
@@ -87,17 +125,32 @@ pub fn speedscope_file(
         list: Vec::new(alloc),
     };
     let profiles = profiles_of(alloc, &mut frames, folded, title, by_thread)?;
-    let frames = Value::Array(frames.list);
-    let profiles = Value::Array(profiles);
-    let file = json!(in alloc; {
-        "$schema": SCHEMA,
-        "exporter": "framehop-stacks",
-        "name": title,
-        "activeProfileIndex": 0,
-        "shared": {"frames": frames},
-        "profiles": profiles
-    })?;
+    let file = file_value(alloc, title, frames.list, profiles)?;
     Ok(file.to_string(alloc)?)
+}
+
+/// Returns a file of frames and profiles.
+fn file_value(
+    alloc: Global,
+    title: &str,
+    frames: Vec<Value>,
+    profiles: Vec<Value>,
+) -> Result<Value> {
+    let mut members = Map::new(alloc);
+    put_text(alloc, &mut members, "$schema", SCHEMA)?;
+    put_text(alloc, &mut members, "exporter", "framehop-stacks")?;
+    put_text(alloc, &mut members, "name", title)?;
+    put_number(alloc, &mut members, "activeProfileIndex", 0)?;
+    put(&mut members, alloc, "shared", shared_value(alloc, frames)?)?;
+    put(&mut members, alloc, "profiles", Value::Array(profiles))?;
+    Ok(Value::Object(members))
+}
+
+/// Returns what the profiles of a file share: its frames.
+fn shared_value(alloc: Global, frames: Vec<Value>) -> Result<Value> {
+    let mut members = Map::new(alloc);
+    put(&mut members, alloc, "frames", Value::Array(frames))?;
+    Ok(Value::Object(members))
 }
 
 /// Returns the profiles of folded stacks, by the names of their threads if there is one for each.
@@ -108,35 +161,54 @@ fn profiles_of(
     title: &str,
     by_thread: bool,
 ) -> Result<Vec<Value>> {
-    let mut by_name: BTreeMap<Vec<u8>, Profile> = BTreeMap::new(alloc);
-    for (stack, count) in folded.iter() {
-        let stack = stack.as_slice();
-        let (name, stack) = if by_thread {
-            split_thread(stack)
-        } else {
-            (title.as_bytes(), stack)
-        };
-        let sample = sample_of(alloc, frames, stack)?;
-        if let Some(profile) = by_name.get_mut(name) {
-            profile.add(sample, *count)?;
-        } else {
-            let mut profile = Profile::new(alloc);
-            profile.add(sample, *count)?;
-            by_name.insert(Vec::from_slice(alloc, name)?, profile)?;
-        }
-    }
-    if by_name.is_empty() {
-        by_name.insert(
-            Vec::from_slice(alloc, title.as_bytes())?,
-            Profile::new(alloc),
-        )?;
-    }
+    let by_name = profiles_by_name(alloc, frames, folded, title, by_thread)?;
     let mut profiles = Vec::new(alloc);
     for (name, profile) in by_name {
-        let name = String::from_utf8_lossy(alloc, name.as_slice())?;
-        profiles.push(profile.into_value(alloc, name.as_str())?)?;
+        profiles.push(profile.into_value(alloc, name.as_slice())?)?;
     }
     Ok(profiles)
+}
+
+/// Returns the profiles of folded stacks, of which there is at least one.
+fn profiles_by_name(
+    alloc: Global,
+    frames: &mut Frames,
+    folded: &Folded,
+    title: &str,
+    by_thread: bool,
+) -> Result<BTreeMap<Vec<u8>, Profile>> {
+    let mut by_name = BTreeMap::new(alloc);
+    for (stack, count) in folded.iter() {
+        let (name, stack) = if by_thread {
+            split_thread(stack.as_slice())
+        } else {
+            (title.as_bytes(), stack.as_slice())
+        };
+        let sample = sample_of(alloc, frames, stack)?;
+        add_sample(alloc, &mut by_name, name, sample, *count)?;
+    }
+    if by_name.is_empty() {
+        let name = Vec::from_slice(alloc, title.as_bytes())?;
+        by_name.insert(name, Profile::new(alloc))?;
+    }
+    Ok(by_name)
+}
+
+/// Adds a stack that was sampled so often to the profile of a name.
+fn add_sample(
+    alloc: Global,
+    by_name: &mut BTreeMap<Vec<u8>, Profile>,
+    name: &[u8],
+    sample: Value,
+    count: u64,
+) -> Result<()> {
+    if let Some(profile) = by_name.get_mut(name) {
+        return profile.add(sample, count);
+    }
+    let mut profile = Profile::new(alloc);
+    profile.add(sample, count)?;
+    by_name.insert(Vec::from_slice(alloc, name)?, profile)?;
+    Ok(())
 }
 
 /// Returns the name of the thread with which a folded stack begins, and the frames after it.

@@ -1,5 +1,7 @@
 //! What is said on standard error.
 use crate::printed::printed_text;
+use framehop_cli::Printed;
+use std::fmt::Display;
 use std::io;
 use std::io::Write;
 
@@ -8,6 +10,20 @@ use std::io::Write;
 #[derive(Clone, Copy, Drop)]
 pub struct Messages<'a> {
     pub rt: &'a HostRuntime,
+}
+
+/// Says something after the program's name, in a line.
+pub fn say<D: Display + Drop>(rt: &HostRuntime, what: D) -> io::Result<()> {
+    writeln!(Messages { rt }, "framehop-stacks: {what}")
+}
+
+/// Says something of a file, by its path, in a line.
+pub fn say_of<D: Display + Drop>(rt: &HostRuntime, path: &str, what: D) -> io::Result<()> {
+    writeln!(
+        Messages { rt },
+        "framehop-stacks: {}: {what}",
+        Printed(path)
+    )
 }
 
 impl Write for Messages<'_> {

@@ -1,16 +1,15 @@
 //! Core files of which only parts are read: the headers and the notes, and of memory what is asked for.
 use crate::input::{read_at, read_front};
 use crate::object_parts::{ELF_HEADER_SIZE, PROGRAM_HEADER_SIZE, write_u64};
-use framehop_coredump::core_file::{Machine, read_core_file};
+use framehop_coredump::core_file::read_core_file;
 use framehop_coredump::mapped_file::{MappedFile, read_mapped_files};
 use framehop_coredump::note::read_notes;
-use framehop_coredump::registers::{aarch64_registers, code_ptr_auth_mask, x86_64_registers};
-use framehop_dump_stacks::dump::{Dump, Registers};
 use framehop_elf::header::read_file_header;
 use framehop_elf::program_header::{PT_NOTE, ProgramHeader};
 use framehop_elf::segment::loaded_segments;
 use framehop_memory::left_out::ReadPart;
 use framehop_memory::memory::MemoryRange;
+use framehop_memory::segment::Segment;
 use std::alloc::{AllocError, Global};
 use std::fs::File;
 use std::{fs, io};
@@ -85,6 +84,13 @@ pub struct ReadMemory {
     pub parts: Vec<ReadPart>,
 }
 
+/// The headers of a core file, as bytes, after which its notes come, and as they are read.
+#[derive(Drop)]
+struct Front {
+    bytes: Vec<u8>,
+    headers: Vec<ProgramHeader>,
+}
+
 impl CoreParts {
     /// Opens a core file, and reads its headers and its notes. `None` of what is no core file, of one whose memory overlaps or
     /// does not lie in the file, and of one that has too many bytes of headers and notes: such a file is read whole.
@@ -93,33 +99,25 @@ impl CoreParts {
         if !metadata.is_file() || metadata.len() < ELF_HEADER_SIZE {
             return Ok(None);
         }
-        let alloc = rt.alloc();
-        let mut file = File::open(rt, path)?;
-        let header = read_at(alloc, &mut file, 0, ELF_HEADER_SIZE)?;
-        let most = metadata.len().min(LARGEST_FRONT);
-        let Some(size) = headers_size(header.as_slice(), most) else {
+        let file = File::open(rt, path)?;
+        CoreParts::read(rt.alloc(), file, metadata.len())
+    }
+
+    /// Reads the headers and the notes of a core file of a size.
+    fn read(alloc: Global, file: File, size: u64) -> io::Result<Option<CoreParts>> {
+        let mut file = file;
+        let Some(front) = read_front_of_core(alloc, &mut file, size)? else {
             return Ok(None);
         };
-        let mut front = read_at(alloc, &mut file, 0, size)?;
-        let headers = match read_core_file(alloc, front.as_slice()) {
-            Ok(core) => core.segments,
-            Err(_) => return Ok(None),
-        };
-        if !add_notes(alloc, &mut file, headers.as_slice(), most, &mut front)? {
-            return Ok(None);
+        match wanted_segments(alloc, &front, size)? {
+            Some(segments) => Ok(Some(CoreParts {
+                file,
+                size,
+                front: front.bytes,
+                segments,
+            })),
+            None => Ok(None),
         }
-        let Some(loaded) = segments_of(alloc, headers.as_slice(), metadata.len())? else {
-            return Ok(None);
-        };
-        let Some(segments) = in_pieces(alloc, front.as_slice(), loaded.as_slice())? else {
-            return Ok(None);
-        };
-        Ok(Some(CoreParts {
-            file,
-            size: metadata.len(),
-            front,
-            segments,
-        }))
     }
 
     /// Returns the headers of the file, and then its notes, as a file of their own.
@@ -138,26 +136,45 @@ impl CoreParts {
 
     /// Reads the memory that is wanted. `None` where it has more bytes than the file, since segments share some.
     pub fn read_memory(&mut self, alloc: Global) -> io::Result<Option<ReadMemory>> {
-        let mut size: u64 = 0;
-        let mut parts = Vec::with_capacity(alloc, self.segments.len())?;
-        for segment in &self.segments {
-            parts.push(segment.read_part(size))?;
-            size = size.saturating_add(segment.wanted);
-        }
+        let size = self.wanted_size();
         if size > self.size {
             return Ok(None);
         }
+        Ok(Some(ReadMemory {
+            bytes: self.read_bytes(alloc, size)?,
+            parts: self.wanted_parts(alloc)?,
+        }))
+    }
+
+    /// Returns how many bytes of memory are wanted.
+    fn wanted_size(&self) -> u64 {
+        let mut size: u64 = 0;
+        for segment in &self.segments {
+            size = size.saturating_add(segment.wanted);
+        }
+        size
+    }
+
+    /// Returns the parts of segments that are wanted, each with its bytes after those of the one before.
+    fn wanted_parts(&self, alloc: Global) -> Result<Vec<ReadPart>, AllocError> {
+        let mut offset: u64 = 0;
+        let mut parts = Vec::with_capacity(alloc, self.segments.len())?;
+        for segment in &self.segments {
+            parts.push(segment.read_part(offset))?;
+            offset = offset.saturating_add(segment.wanted);
+        }
+        Ok(parts)
+    }
+
+    /// Reads the bytes that are wanted, of which there are so many.
+    fn read_bytes(&mut self, alloc: Global, size: u64) -> io::Result<Vec<u8>> {
         let mut bytes = Vec::from_elem(alloc, 0u8, size as usize)?;
         let mut rest = bytes.as_mut_slice();
         for segment in &self.segments {
-            rest = read_front(
-                &mut self.file,
-                segment.wanted_offset(),
-                segment.wanted,
-                rest,
-            )?;
+            let (offset, size) = (segment.wanted_offset(), segment.wanted);
+            rest = read_front(&mut self.file, offset, size, rest)?;
         }
-        Ok(Some(ReadMemory { bytes, parts }))
+        Ok(bytes)
     }
 
     /// Wants memory from addresses (AVMAs) on, each up to the end of its segment. Returns whether some of it was not wanted
@@ -215,30 +232,53 @@ impl WantedSegment {
     }
 }
 
-/// Returns the stack pointers (AVMAs) of all threads.
-pub fn stack_pointers(alloc: Global, dump: &Dump<'_>) -> Result<Vec<u64>, AllocError> {
-    dump.threads
-        .iter()
-        .filter_map(|thread| stack_pointer(dump.machine, thread.registers))
-        .collect(alloc)
-}
-
-/// Returns the stack pointer (AVMA) of a thread of a core file, if it has its registers.
-fn stack_pointer(machine: Machine, registers: Registers<'_>) -> Option<u64> {
-    let Registers::Kernel { values, pac_mask } = registers else {
-        return None;
+/// Reads the headers of a core file of a size, and then its notes. `None` of what is no core file, and where they have too many
+/// bytes.
+fn read_front_of_core(alloc: Global, file: &mut File, size: u64) -> io::Result<Option<Front>> {
+    let most = size.min(LARGEST_FRONT);
+    let Some(end) = read_headers_end(alloc, file, most)? else {
+        return Ok(None);
     };
-    match machine {
-        Machine::X86_64 => Some(x86_64_registers(values)?.sp()),
-        Machine::Aarch64 => {
-            let (_, regs) = aarch64_registers(code_ptr_auth_mask(pac_mask), values)?;
-            Some(regs.sp())
-        }
+    let mut bytes = read_at(alloc, file, 0, end)?;
+    let Some(headers) = headers_in(alloc, bytes.as_slice()) else {
+        return Ok(None);
+    };
+    if add_notes(alloc, file, headers.as_slice(), most, &mut bytes)? {
+        Ok(Some(Front { bytes, headers }))
+    } else {
+        Ok(None)
     }
 }
 
 /// Returns where the program headers of a core file end, if they are in its first bytes, of which there are at most so many.
-fn headers_size(header: &[u8], most: u64) -> Option<u64> {
+fn read_headers_end(alloc: Global, file: &mut File, most: u64) -> io::Result<Option<u64>> {
+    let header = read_at(alloc, file, 0, ELF_HEADER_SIZE)?;
+    Ok(headers_end(header.as_slice(), most))
+}
+
+/// Returns the program headers of a core file.
+fn headers_in(alloc: Global, front: &[u8]) -> Option<Vec<ProgramHeader>> {
+    match read_core_file(alloc, front) {
+        Ok(core) => Some(core.segments),
+        Err(_) => None,
+    }
+}
+
+/// Returns the segments that are read apart, of which nothing is wanted. `None` where they overlap, or do not lie in the file, of
+/// a size, and where the notes can't be read.
+fn wanted_segments(
+    alloc: Global,
+    front: &Front,
+    size: u64,
+) -> Result<Option<Vec<WantedSegment>>, AllocError> {
+    match segments_of(alloc, front.headers.as_slice(), size)? {
+        Some(loaded) => in_pieces(alloc, front.bytes.as_slice(), loaded.as_slice()),
+        None => Ok(None),
+    }
+}
+
+/// Returns where the program headers of a core file end, if they are in its first bytes, of which there are at most so many.
+fn headers_end(header: &[u8], most: u64) -> Option<u64> {
     let header = read_file_header(header).ok()?;
     let size = PROGRAM_HEADER_SIZE * u64::from(header.e_phnum);
     let end = header.e_phoff.checked_add(size)?;
@@ -263,20 +303,34 @@ fn add_notes(
     };
     let mut place = header.e_phoff.saturating_add(P_OFFSET);
     for header in headers {
-        if header.p_type == PT_NOTE {
-            let start = front.len() as u64;
-            let end = header.p_offset.checked_add(header.p_filesz);
-            if end.is_none() || start.saturating_add(header.p_filesz) > most {
-                return Ok(false);
-            }
-            let Ok(notes) = read_at(alloc, file, header.p_offset, header.p_filesz) else {
-                return Ok(false);
-            };
-            write_u64(front.as_mut_slice(), place, start);
-            front.extend_from_slice(notes.as_slice())?;
+        if header.p_type == PT_NOTE && !add_note(alloc, file, header, most, place, front)? {
+            return Ok(false);
         }
         place = place.saturating_add(PROGRAM_HEADER_SIZE);
     }
+    Ok(true)
+}
+
+/// Reads the notes of a program header, adds them to the front of a core file, and writes there, at a place, where they are.
+/// Returns whether the file has them, and there are at most so many bytes together.
+fn add_note(
+    alloc: Global,
+    file: &mut File,
+    header: &ProgramHeader,
+    most: u64,
+    place: u64,
+    front: &mut Vec<u8>,
+) -> io::Result<bool> {
+    let start = front.len() as u64;
+    let end = header.p_offset.checked_add(header.p_filesz);
+    if end.is_none() || start.saturating_add(header.p_filesz) > most {
+        return Ok(false);
+    }
+    let Ok(notes) = read_at(alloc, file, header.p_offset, header.p_filesz) else {
+        return Ok(false);
+    };
+    write_u64(front.as_mut_slice(), place, start);
+    front.extend_from_slice(notes.as_slice())?;
     Ok(true)
 }
 
@@ -287,9 +341,18 @@ fn in_pieces(
     front: &[u8],
     loaded: &[LoadedSegment],
 ) -> Result<Option<Vec<WantedSegment>>, AllocError> {
-    let Some(mapped) = mapped_files(alloc, front) else {
-        return Ok(None);
-    };
+    match mapped_files(alloc, front) {
+        Some(mapped) => Ok(Some(pieces_beside(alloc, loaded, mapped.as_slice())?)),
+        None => Ok(None),
+    }
+}
+
+/// Returns the segments that are read apart, by the files that were mapped.
+fn pieces_beside(
+    alloc: Global,
+    loaded: &[LoadedSegment],
+    mapped: &[MappedFile<'_>],
+) -> Result<Vec<WantedSegment>, AllocError> {
     let mut segments = Vec::with_capacity(alloc, loaded.len())?;
     for segment in loaded {
         let is_cut = segment.is_code && segment.range.size > LARGE_CODE;
@@ -299,7 +362,7 @@ fn in_pieces(
             push_wanted(&mut segments, segment.range)?;
         }
     }
-    Ok(Some(segments))
+    Ok(segments)
 }
 
 /// Returns the files that were mapped, by the front of a core file.
@@ -341,12 +404,32 @@ fn segments_of(
     headers: &[ProgramHeader],
     size: u64,
 ) -> Result<Option<Vec<LoadedSegment>>, AllocError> {
+    let loaded = loaded_segments(alloc, headers)?;
+    if loaded.iter().any(|segment| is_cut_off(segment, size)) {
+        return Ok(None);
+    }
+    let segments = segments_in(alloc, loaded.as_slice(), size)?;
+    if are_apart(segments.as_slice()) {
+        Ok(Some(segments))
+    } else {
+        Ok(None)
+    }
+}
+
+/// Returns whether a file of a size lacks some of a segment that is not the kernel's.
+fn is_cut_off(loaded: &Segment, size: u64) -> bool {
+    let end = loaded.offset.saturating_add(loaded.file_size);
+    end > size && loaded.address < FIRST_OF_KERNEL
+}
+
+/// Returns the segments of memory of which a file of a size has something, in the order of their addresses.
+fn segments_in(
+    alloc: Global,
+    loaded: &[Segment],
+    size: u64,
+) -> Result<Vec<LoadedSegment>, AllocError> {
     let mut segments = Vec::new(alloc);
-    for loaded in &loaded_segments(alloc, headers)? {
-        let end = loaded.offset.saturating_add(loaded.file_size);
-        if end > size && loaded.address < FIRST_OF_KERNEL {
-            return Ok(None);
-        }
+    for loaded in loaded {
         let has = size.saturating_sub(loaded.offset).min(loaded.file_size);
         if has > 0 {
             let range = MemoryRange {
@@ -359,11 +442,7 @@ fn segments_of(
         }
     }
     segments.sort_by_key(|segment| segment.range.start)?;
-    if are_apart(segments.as_slice()) {
-        Ok(Some(segments))
-    } else {
-        Ok(None)
-    }
+    Ok(segments)
 }
 
 /// Returns whether each segment ends before the next one begins.

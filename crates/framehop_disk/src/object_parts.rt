@@ -2,7 +2,7 @@
 //! debugging.
 use crate::input::{read_at, read_front, read_sized};
 use framehop_elf::header::{FileHeader, read_file_header};
-use framehop_elf::program_header::{PT_NOTE, read_program_headers};
+use framehop_elf::program_header::{PT_NOTE, ProgramHeader, read_program_headers};
 use framehop_elf::section::SHT_NOBITS;
 use framehop_elf::section_header::{SectionHeader, read_section_headers};
 use framehop_symbols::object_file::build_id_of;
@@ -17,13 +17,13 @@ const SMALLEST: u64 = 0x10_0000;
 const LARGEST_NAMES: u64 = 0x100_0000;
 
 /// The size of an ELF header, in bytes.
-pub const ELF_HEADER_SIZE: u64 = 64;
+pub(crate) const ELF_HEADER_SIZE: u64 = 64;
 
 /// The offset of `e_shoff` in an ELF header, in bytes.
 const E_SHOFF: u64 = 40;
 
 /// The size of a program header, in bytes.
-pub const PROGRAM_HEADER_SIZE: u64 = 56;
+pub(crate) const PROGRAM_HEADER_SIZE: u64 = 56;
 
 /// The size of a section header, in bytes.
 const SECTION_HEADER_SIZE: u64 = 64;
@@ -67,7 +67,7 @@ struct Sections {
 /// Reads a file of a size: of an ELF file with a build id, of 1 MiB or more, without `.rodata`, `.data` and its sections
 /// `.debug_*` but for `.debug_frame`, where they come after all code. What comes after them moves to the front, and the section
 /// headers tell where to.
-pub fn read_object(rt: &HostRuntime, path: &str, size: u64) -> io::Result<Vec<u8>> {
+pub(crate) fn read_object(rt: &HostRuntime, path: &str, size: u64) -> io::Result<Vec<u8>> {
     if size >= SMALLEST {
         let mut file = File::open(rt, path)?;
         if let Some(bytes) = read_asked_sections(rt.alloc(), &mut file, size)? {
@@ -79,19 +79,35 @@ pub fn read_object(rt: &HostRuntime, path: &str, size: u64) -> io::Result<Vec<u8
 
 /// Reads an ELF file of a size without the sections that nothing asks for. `None` of what is to be read whole.
 fn read_asked_sections(alloc: Global, file: &mut File, size: u64) -> io::Result<Option<Vec<u8>>> {
-    let front = read_at(alloc, file, 0, ELF_HEADER_SIZE)?;
-    let Ok(header) = read_file_header(front.as_slice()) else {
+    let Some(header) = read_header(alloc, file)? else {
         return Ok(None);
     };
-    let Some(sections) = read_sections(alloc, file, header, size)? else {
-        return Ok(None);
-    };
-    let mut bytes = read_rest(alloc, file, size, sections.left_out.as_slice())?;
-    move_sections(bytes.as_mut_slice(), &sections);
-    if build_id_of(alloc, bytes.as_slice())?.is_empty() {
-        return Ok(None);
+    match read_sections(alloc, file, header, size)? {
+        Some(sections) => read_with_build_id(alloc, file, size, &sections),
+        None => Ok(None),
     }
-    Ok(Some(bytes))
+}
+
+/// Reads the header of an ELF file.
+fn read_header(alloc: Global, file: &mut File) -> io::Result<Option<FileHeader>> {
+    let front = read_at(alloc, file, 0, ELF_HEADER_SIZE)?;
+    Ok(read_file_header(front.as_slice()).ok())
+}
+
+/// Reads a file of a size without the parts that are left out. `None` of one without a build id.
+fn read_with_build_id(
+    alloc: Global,
+    file: &mut File,
+    size: u64,
+    sections: &Sections,
+) -> io::Result<Option<Vec<u8>>> {
+    let mut bytes = read_rest(alloc, file, size, sections.left_out.as_slice())?;
+    move_sections(bytes.as_mut_slice(), sections);
+    if build_id_of(alloc, bytes.as_slice())?.is_empty() {
+        Ok(None)
+    } else {
+        Ok(Some(bytes))
+    }
 }
 
 /// Reads the section headers of a file of a size, and tells which parts of it are left out. `None` where none are, and of a
@@ -108,55 +124,100 @@ fn read_sections(
     let Some(headers) = read_headers(alloc, file, header, size)? else {
         return Ok(None);
     };
-    let Some(names) = headers.get(usize::from(header.e_shstrndx)) else {
+    match read_gaps(alloc, file, header, headers.as_slice(), code_end, size)? {
+        Some(left_out) => Ok(Some(Sections {
+            offset: header.e_shoff,
+            headers,
+            left_out,
+        })),
+        None => Ok(None),
+    }
+}
+
+/// Returns the parts of a file of a size that are left out, by the names of its sections, which are read. `None` where there are
+/// none, and where they are not apart and after the code.
+fn read_gaps(
+    alloc: Global,
+    file: &mut File,
+    header: FileHeader,
+    headers: &[SectionHeader],
+    code_end: u64,
+    size: u64,
+) -> io::Result<Option<Vec<Gap>>> {
+    let Some(names) = names_section(header, headers, size) else {
         return Ok(None);
     };
-    if !is_inside(names, size) || names.sh_size > LARGEST_NAMES {
-        return Ok(None);
-    }
     let names = read_at(alloc, file, names.sh_offset, names.sh_size)?;
-    let mut left_out = Vec::new(alloc);
-    for section in &headers {
-        if is_unasked(section, names.as_slice()) && is_inside(section, size) {
-            left_out.push(Gap {
+    let mut left_out = unasked_parts(alloc, headers, names.as_slice(), size)?;
+    let is_apart = add_up(left_out.as_mut_slice(), code_end)
+        && are_kept(headers, names.as_slice(), left_out.as_slice())
+        && is_kept(header.e_shoff, headers_size(header), left_out.as_slice());
+    if left_out.is_empty() || !is_apart {
+        Ok(None)
+    } else {
+        Ok(Some(left_out))
+    }
+}
+
+/// Returns the section of the names of sections, if a file of a size has it, and it is not too large.
+fn names_section(
+    header: FileHeader,
+    headers: &[SectionHeader],
+    size: u64,
+) -> Option<SectionHeader> {
+    let names = headers.get(usize::from(header.e_shstrndx))?;
+    if is_inside(names, size) && names.sh_size <= LARGEST_NAMES {
+        Some(*names)
+    } else {
+        None
+    }
+}
+
+/// Returns the parts of a file of a size that nothing asks for, in the order of their offsets.
+fn unasked_parts(
+    alloc: Global,
+    headers: &[SectionHeader],
+    names: &[u8],
+    size: u64,
+) -> io::Result<Vec<Gap>> {
+    let mut parts = Vec::new(alloc);
+    for section in headers {
+        if is_unasked(section, names) && is_inside(section, size) {
+            parts.push(Gap {
                 start: section.sh_offset,
                 end: section.sh_offset.saturating_add(section.sh_size),
                 so_far: 0,
             })?;
         }
     }
-    left_out.sort_by_key(|part| part.start)?;
-    let is_apart = add_up(left_out.as_mut_slice(), code_end)
-        && are_kept(headers.as_slice(), names.as_slice(), left_out.as_slice())
-        && is_kept(header.e_shoff, headers_size(header), left_out.as_slice());
-    if left_out.is_empty() || !is_apart {
-        return Ok(None);
-    }
-    Ok(Some(Sections {
-        offset: header.e_shoff,
-        headers,
-        left_out,
-    }))
+    parts.sort_by_key(|part| part.start)?;
+    Ok(parts)
 }
 
 /// Returns the offset at which a file's program headers, its code and its notes end. `None` where the program headers are not
 /// in its first MiB, or can't be read.
 fn code_end(alloc: Global, file: &mut File, header: FileHeader) -> io::Result<Option<u64>> {
     let size = PROGRAM_HEADER_SIZE * u64::from(header.e_phnum);
-    let mut end = header.e_phoff.saturating_add(size).max(ELF_HEADER_SIZE);
+    let end = header.e_phoff.saturating_add(size).max(ELF_HEADER_SIZE);
     if end > SMALLEST {
         return Ok(None);
     }
     let front = read_at(alloc, file, 0, end)?;
-    let Ok(headers) = read_program_headers(alloc, front.as_slice(), header) else {
-        return Ok(None);
-    };
-    for segment in &headers {
+    match read_program_headers(alloc, front.as_slice(), header) {
+        Ok(headers) => Ok(Some(end_of_code(headers.as_slice(), end))),
+        Err(_) => Ok(None),
+    }
+}
+
+/// Returns where the last segment of code or notes ends, if that is after an end.
+fn end_of_code(headers: &[ProgramHeader], end: u64) -> u64 {
+    let mut end = end;
+    for segment in headers {
         if segment.p_type == PT_NOTE || segment.p_flags & PF_X != 0 {
             end = end.max(segment.p_offset.saturating_add(segment.p_filesz));
         }
     }
-    Ok(Some(end))
+    end
 }
 
 /// Reads the section headers of a file of a size, if it has them where its header says.
@@ -286,7 +347,7 @@ fn moved(offset: u64, left_out: &[Gap]) -> u64 {
 }
 
 /// Writes a number at an offset.
-pub fn write_u64(bytes: &mut [u8], offset: u64, number: u64) {
+pub(crate) fn write_u64(bytes: &mut [u8], offset: u64, number: u64) {
     if let Some(place) = bytes.get_mut(offset as usize..) {
         for (byte, digit) in place.iter_mut().zip(number.to_le_bytes()) {
             *byte = digit;

@@ -52,7 +52,7 @@ impl ReadPaths {
     }
 
     /// Notes where the copy of the last file was read, which is in its place.
-    pub fn note_copy(&self, alloc: Global, path: &str) -> Result<(), AllocError> {
+    pub(crate) fn note_copy(&self, alloc: Global, path: &str) -> Result<(), AllocError> {
         let path = Vec::from_slice(alloc, path.as_bytes())?;
         if let Ok(mut list) = self.list.try_borrow_mut()
             && let Some(last) = list.last_mut()
@@ -63,7 +63,7 @@ impl ReadPaths {
     }
 
     /// Notes where the debug file of the last file was read.
-    pub fn note_debug_file(&self, alloc: Global, path: &str) -> Result<(), AllocError> {
+    pub(crate) fn note_debug_file(&self, alloc: Global, path: &str) -> Result<(), AllocError> {
         let path = Vec::from_slice(alloc, path.as_bytes())?;
         if let Ok(mut list) = self.list.try_borrow_mut()
             && let Some(last) = list.last_mut()

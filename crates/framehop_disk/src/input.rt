@@ -1,10 +1,10 @@
 //! The bytes of files and of standard input, and what they are.
-use crate::messages::Messages;
-use framehop_cli::{Printed, Result};
+use crate::messages::say_of;
+use framehop_cli::Result;
 use framehop_folded::text::is_text;
 use std::alloc::Global;
 use std::fs::File;
-use std::io::{ErrorKind, Read, Seek, SeekFrom, Write};
+use std::io::{ErrorKind, Read, Seek, SeekFrom};
 use std::{fs, io};
 
 /// The size from which on a recording is told of before it is read, in bytes: 50 MB.
@@ -51,67 +51,79 @@ pub fn kind_of(bytes: &[u8]) -> Kind {
 /// Reads a regular file, or standard input for `-`. Where it can't be read, says why, and returns the status: 2 where memory
 /// runs out, else 1.
 pub fn read_input(rt: &HostRuntime, path: &str) -> Result<Result<Vec<u8>, u8>> {
-    let bytes = if path == "-" {
-        read_standard_input(rt)
-    } else {
-        match fs::metadata(rt, path) {
-            Ok(metadata) if metadata.is_file() => {
-                announce(rt, path, metadata.len())?;
-                read_sized(rt, path, metadata.len())
-            }
-            Ok(_) => {
-                writeln!(
-                    Messages { rt },
-                    "framehop-stacks: {}: not a regular file; for standard input write -",
-                    Printed(path)
-                )?;
-                return Ok(Err(1));
-            }
-            Err(error) => Err(error),
+    match read_regular_or_standard(rt, path) {
+        Ok(Some(bytes)) => Ok(Ok(bytes)),
+        Ok(None) => {
+            let why = "not a regular file; for standard input write -";
+            say_of(rt, path, why)?;
+            Ok(Err(1))
         }
-    };
-    match bytes {
-        Ok(bytes) => Ok(Ok(bytes)),
         Err(error) => {
-            let name = name_of(path);
-            writeln!(
-                Messages { rt },
-                "framehop-stacks: {}: {error}",
-                Printed(name)
-            )?;
-            let status = if error.kind() == ErrorKind::OutOfMemory {
-                2
-            } else {
-                1
-            };
+            let status = status_of(&error);
+            say_of(rt, name_of(path), error)?;
             Ok(Err(status))
         }
     }
 }
 
+/// Reads a regular file, or standard input for `-`. `None` of what is no regular file.
+fn read_regular_or_standard(rt: &HostRuntime, path: &str) -> io::Result<Option<Vec<u8>>> {
+    if path == "-" {
+        return Ok(Some(read_standard_input(rt)?));
+    }
+    let metadata = fs::metadata(rt, path)?;
+    if !metadata.is_file() {
+        return Ok(None);
+    }
+    announce(rt, path, metadata.len())?;
+    Ok(Some(read_sized(rt, path, metadata.len())?))
+}
+
+/// Returns the status for an error of the system: 2 where memory ran out, else 1.
+fn status_of(error: &io::Error) -> u8 {
+    if error.kind() == ErrorKind::OutOfMemory {
+        2
+    } else {
+        1
+    }
+}
+
 /// Reads a file of a size, into memory that is asked for once. What is added to it meanwhile is not read. Each part is filled
 /// with zeros right before it is read, so these stay in the processor's cache.
-pub fn read_sized(rt: &HostRuntime, path: &str, size: u64) -> io::Result<Vec<u8>> {
+pub(crate) fn read_sized(rt: &HostRuntime, path: &str, size: u64) -> io::Result<Vec<u8>> {
     let size = size as usize;
     let mut file = File::open(rt, path)?;
     let mut bytes = Vec::with_capacity(rt.alloc(), size)?;
     for start in (0..size).step_by(PART) {
-        bytes.resize(start + (size - start).min(PART), 0u8)?;
-        file.read_exact(&mut bytes.as_mut_slice()[start..])?;
+        read_part(&mut file, start + (size - start).min(PART), &mut bytes)?;
     }
     Ok(bytes)
 }
 
+/// Reads bytes of a file up to an end, after those that were read.
+fn read_part(file: &mut File, end: usize, bytes: &mut Vec<u8>) -> io::Result<()> {
+    let start = bytes.len();
+    bytes.resize(end, 0u8)?;
+    match bytes.as_mut_slice().get_mut(start..) {
+        Some(part) => file.read_exact(part),
+        None => Ok(()),
+    }
+}
+
 /// Reads so many bytes of a file from an offset on.
-pub fn read_at(alloc: Global, file: &mut File, offset: u64, size: u64) -> io::Result<Vec<u8>> {
+pub(crate) fn read_at(
+    alloc: Global,
+    file: &mut File,
+    offset: u64,
+    size: u64,
+) -> io::Result<Vec<u8>> {
     let mut bytes = Vec::from_elem(alloc, 0u8, size as usize)?;
-    file.seek(SeekFrom::Start(offset))?;
-    file.read_exact(bytes.as_mut_slice())?;
+    fill_at(file, offset, bytes.as_mut_slice())?;
     Ok(bytes)
 }
 
 /// Reads so many bytes of a file from an offset on to the front of a slice, and returns the rest of it.
-pub fn read_front<'a>(
+pub(crate) fn read_front<'a>(
     file: &mut File,
     offset: u64,
     size: u64,
@@ -120,10 +132,15 @@ pub fn read_front<'a>(
     let size = (size as usize).min(slice.len());
     let (front, rest) = slice.split_at_mut(size);
     if size > 0 {
-        file.seek(SeekFrom::Start(offset))?;
-        file.read_exact(front)?;
+        fill_at(file, offset, front)?;
     }
     Ok(rest)
+}
+
+/// Reads the bytes of a file from an offset on into a slice.
+fn fill_at(file: &mut File, offset: u64, slice: &mut [u8]) -> io::Result<()> {
+    file.seek(SeekFrom::Start(offset))?;
+    file.read_exact(slice)
 }
 
 /// Reads standard input to its end.
@@ -134,14 +151,10 @@ fn read_standard_input(rt: &HostRuntime) -> io::Result<Vec<u8>> {
 }
 
 /// Says of a large recording that it is read, where someone sees it.
-pub fn announce(rt: &HostRuntime, path: &str, size: u64) -> Result<()> {
+pub fn announce(rt: &HostRuntime, path: &str, size: u64) -> io::Result<()> {
     if size > LARGE_RECORDING && is_terminal(rt) {
         let megabytes = size / 1_000_000;
-        writeln!(
-            Messages { rt },
-            "framehop-stacks: {}: reading {megabytes} MB",
-            Printed(path)
-        )?;
+        say_of(rt, path, format_args!("reading {megabytes} MB"))?;
     }
     Ok(())
 }
@@ -150,7 +163,7 @@ pub fn announce(rt: &HostRuntime, path: &str, size: u64) -> Result<()> {
 fn is_terminal(rt: &HostRuntime) -> bool {
     match fs::read_link(rt, "/proc/self/fd/2") {
         Ok(path) => {
-            let device = path.into_string();
+            let device = path.as_str();
             device.starts_with("/dev/pts/") || device.starts_with("/dev/tty")
         }
         Err(_) => false,

@@ -1,0 +1,14 @@
+//! The files of a disk: which are tried for a file that processes map, which of their bytes are read, and what is said of those
+//! that are not.
+#![tactic(auto)]
+
+pub mod core_parts;
+pub mod disk;
+pub mod input;
+pub mod known_names;
+pub mod listing;
+pub mod messages;
+mod object_parts;
+mod paths;
+pub mod printed;
+pub mod read_paths;

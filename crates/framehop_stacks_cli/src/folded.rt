@@ -1,0 +1,86 @@
+//! Folded stacks as they are read.
+use crate::request::refuse_file;
+use framehop_cli::Result;
+use framehop_disk::printed::printed_text;
+use framehop_folded::error::{FoldedError, TextError};
+use framehop_folded::folded::Folded;
+use framehop_folded::text::{FoldedLine, line_number, read_folded};
+use std::alloc::Global;
+
+/// Adds the folded stacks of a text to those so far, if all of its lines can be read.
+pub fn add_folded(rt: &HostRuntime, path: &str, text: &[u8], folded: &mut Folded) -> Result<u8> {
+    if text.is_empty() {
+        return refuse_file(rt, path, "empty", 1);
+    }
+    match read_folded(rt.alloc(), text) {
+        Ok(lines) => add_lines(rt, path, lines.as_slice(), folded),
+        Err(error) => refuse_line(rt, path, text, error),
+    }
+}
+
+/// Adds the folded stacks of lines to those so far, or says why they can't be added.
+fn add_lines(
+    rt: &HostRuntime,
+    path: &str,
+    lines: &[FoldedLine],
+    folded: &mut Folded,
+) -> Result<u8> {
+    let mut added = Folded::new(rt.alloc());
+    match count_lines(rt.alloc(), lines, &mut added)? {
+        Ok(()) => merge(rt, path, added, folded),
+        Err(error) => refuse_count(rt, path, error),
+    }
+}
+
+/// Counts the stacks of lines, as they are printed.
+fn count_lines(
+    alloc: Global,
+    lines: &[FoldedLine],
+    counted: &mut Folded,
+) -> Result<Result<(), FoldedError>> {
+    for line in lines {
+        let stack = printed_text(alloc, line.stack.as_slice())?;
+        if let Err(error) = counted.add(stack, line.count) {
+            return Ok(Err(error));
+        }
+    }
+    Ok(Ok(()))
+}
+
+/// Adds folded stacks to those so far, or says why they can't be added.
+pub fn merge(rt: &HostRuntime, path: &str, added: Folded, folded: &mut Folded) -> Result<u8> {
+    match folded.merge(added) {
+        Ok(()) => Ok(0),
+        Err(error) => refuse_count(rt, path, error),
+    }
+}
+
+/// Says why the counts of folded stacks can't be added.
+fn refuse_count(rt: &HostRuntime, path: &str, error: FoldedError) -> Result<u8> {
+    let status = match error {
+        FoldedError::OutOfMemory => 2,
+        FoldedError::CountTooLarge => 1,
+    };
+    refuse_file(rt, path, error, status)
+}
+
+/// Says which line of a text is no folded stack, and why.
+fn refuse_line(rt: &HostRuntime, path: &str, text: &[u8], error: TextError) -> Result<u8> {
+    match error {
+        TextError::NoCount(offset) => {
+            refuse_at(rt, path, text, offset, "it has no blank before a count")
+        }
+        TextError::BadCount(offset) => {
+            let cause = "after its last blank there is no decimal count below 2^64";
+            refuse_at(rt, path, text, offset, cause)
+        }
+        TextError::OutOfMemory => refuse_file(rt, path, error, 2),
+    }
+}
+
+/// Says that the line at an offset of a text is no folded stack, and why.
+fn refuse_at(rt: &HostRuntime, path: &str, text: &[u8], offset: usize, cause: &str) -> Result<u8> {
+    let line = line_number(text, offset);
+    let why = format_args!("line {line} is no folded stack: {cause}");
+    refuse_file(rt, path, why, 1)
+}
