@@ -464,3 +464,58 @@ fn returns_from_calls_to_no_code(rt: HostRuntime) -> Result<(), Fail> {
     }
     Ok(())
 }
+
+/// An `.eh_frame` at 0x402000: a CIE, and an FDE for 0x401000 to 0x401040, whose CFA is rsp + 8 with rbx at the CFA - 16: as
+/// after `pop %rbx`, below the stack pointer.
+const EH_FRAME_OF_RESTORED: &'static [u8] = &[
+    0x14, 0x00, 0x00, 0x00, 0x00, 0x00, 0x00, 0x00, 0x01, 0x7a, 0x52, 0x00, 0x01, 0x78, 0x10, 0x01,
+    0x1b, 0x0c, 0x07, 0x08, 0x90, 0x01, 0x00, 0x00, 0x14, 0x00, 0x00, 0x00, 0x1c, 0x00, 0x00, 0x00,
+    0xe0, 0xef, 0xff, 0xff, 0x40, 0x00, 0x00, 0x00, 0x00, 0x0e, 0x08, 0x83, 0x02, 0x00, 0x00, 0x00,
+    0x00, 0x00, 0x00, 0x00,
+];
+
+/// Its code: pop rbx and ret, at 0x401025; a call of *%rax; pop rax and ret, which return elsewhere than the row says; and a
+/// load of rbx from where it is saved, and ret.
+const CODE_OF_RESTORED: [(usize, &[u8]); 4] = [
+    (0x24, &[0x5b, 0xc3]),
+    (0x2e, &[0xff, 0xd0]),
+    (0x34, &[0x58, 0xc3]),
+    (0x38, &[0x48, 0x8b, 0x5c, 0x24, 0xf8, 0xc3]),
+];
+
+/// Its stack, which begins at rsp: the return address of the row, and that of the code with `pop %rax`.
+const WORDS_OF_RESTORED: [(u64, u64); 2] = [(0x7000, 0x401030), (0x7008, 0x401030)];
+
+/// Where the frame is, and what is known of rbx in its caller.
+const RESTORED: [(u64, Option<u64>); 3] = [
+    (0x401025, Some(0xb0)),
+    (0x401034, None),
+    (0x401038, None),
+];
+
+/// Returns the backtrace of two frames from an address (AVMA) of that code on, where rbx is 0xb0.
+fn restored_from(alloc: Global, pc: u64) -> Result<StackTrace<UnwindRegsX86_64>, Fail> {
+    let sections = sections_of(
+        0x400000,
+        Some(EH_FRAME_OF_RESTORED),
+        0x402000..0x402034,
+        None,
+    );
+    let unwinder = unwinder_x86_64(alloc, &mut Generations::new(), sections)?;
+    let file = file_of(&CODE_OF_RESTORED, &WORDS_OF_RESTORED);
+    let memory = dump_of(alloc, &file, CODE_SIZE)?;
+    let mut regs = UnwindRegsX86_64::new(pc, 0x7000, 0x7ff0);
+    regs.set(Reg::RBX, 0xb0);
+    Ok(backtrace_in(alloc, &unwinder, unwinder.inner(), &memory, regs, 2)?)
+}
+
+#[test]
+fn knows_registers_that_are_restored(rt: HostRuntime) -> Result<(), Fail> {
+    for (pc, rbx) in RESTORED {
+        let found = restored_from(rt.alloc(), pc)?;
+        let known = [(1, 3, rbx), (1, 6, Some(0x7ff0)), (1, 7, Some(0x7008))];
+        assert!(rt; frame_row(&found, 1) == Some((0x401030, true, FoundBy::Cfi)));
+        assert!(rt; has_columns(&found, &known), "{pc:x}");
+    }
+    Ok(())
+}
