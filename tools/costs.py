@@ -4,7 +4,7 @@
     costs.py [--most N] CRATE..
 
 The time in which a function is proved goes with that size, which is the same on each machine: over the functions of a crate the
-correlation of both was 0.87 to 0.96.
+correlation of both was 0.77 to 0.96 in six crates, and 0.42 in a seventh.
 """
 
 import argparse
