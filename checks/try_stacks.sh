@@ -283,8 +283,9 @@ printf '%s\n' "$whole 1" 'app;[frame-pointer-0];app+0x1203;app+0x1128 2' >"$work
 printf '%s\n' 'app-200/200;[frame-pointer-0];app+0x1203;app+0x1124 1' 'other-200/200;[frame-pointer-0];other+0x203;[unknown] 1' >"$work/threads"
 # what calls what in checks/stacks/uncovered.s; in mix the word at rsp + 40 of a sample's copy is in odd or in work
 printf 'uncovered;_start;run;%s\n' 'aligned 10' 'odd;mix 11' 'work;mix 12' >"$work/uncovered.folded"
-printf '%s\n' '33 samples, 0 records lost by the kernel' '0 samples with frames that no unwind data tells' \
-    'how the stacks ended:' 'root 33' >"$work/uncovered.summary"
+printf '%s: can'"'"'t be read\n' /usr/bin/env /usr/lib/x86_64-linux-gnu/{ld-linux-x86-64.so.2,libc.so.6} >"$work/uncovered.summary"
+printf '%s\n' '33 samples, 0 records lost by the kernel' '33 samples with frames that no unwind data tells' \
+    'how the stacks ended:' 'root 33' >>"$work/uncovered.summary"
 printf '%s\n' 'other;[frame-pointer-0];other+0x203;[unknown] 1' >"$work/other.folded"
 printf '\037\213\010' >"$work/gzip.data"
 mkdir -p "$work/mixed" && printf 'PERF\0' >"$work/mixed/a.data" && cp "$made/events.data" "$work/mixed/b.data" || exit 1
