@@ -22,9 +22,9 @@ echo '[ShortFile]' >"$work/short"
 head -c 1000 "$data/crash.core" >"$work/short.core"
 head -c 5000 "$data/crash.dmp" >"$work/short.dmp"
 # a core file that can't be read whole, and a mapped file that is large enough to be read in parts
-mkdir -p "$work/large/usr/local/bin"
-python3 "$checks/stacks/enlarge.py" "$data/crash.core" 5120 "$work/large/crash.core" || exit 1
-python3 "$checks/stacks/enlarge.py" "$data/usr/local/bin/crash" 2 "$work/large/usr/local/bin/crash" || exit 1
+mkdir -p "$work/enlarged/usr/local/bin"
+python3 "$checks/stacks/enlarge.py" "$data/crash.core" 5120 "$work/enlarged/crash.core" || exit 1
+python3 "$checks/stacks/enlarge.py" "$data/usr/local/bin/crash" 2 "$work/enlarged/usr/local/bin/crash" || exit 1
 mkdir -p "$work/other/usr/local/bin" && cp "$data/srv/tiny" "$work/other/usr/local/bin/crash"
 # a folder from which a link leads to the file, and one into which it does
 mkdir -p "$work/leads-out/usr/local/bin" && ln -s "$(realpath -- "$data/usr/local/bin/crash")" "$work/leads-out/usr/local/bin/crash"
@@ -296,7 +296,7 @@ for program in "$@"; do
     program=$(realpath -- "$program")
     try 0 "$checks/stacks/tiny.frames" "$work/tiny.summary" --root . --frames tiny.data
     try 0 "$checks/stacks/tiny.limit" "$work/limit.summary" --root . --limit 3 tiny.data
-    try 0 "$work/uncovered.folded" "$work/uncovered.summary" --root . uncovered.data
+    try 0 "$work/uncovered.folded" "$work/uncovered.summary" --root . srv/uncovered.data
     try 0 "$checks/stacks/crash.stacks" any --root . crash.core
     try 0 "$checks/stacks/crash.missing" any --root srv crash.core
     try 0 "$checks/stacks/crash.stacks" any --root srv --root . crash.core
@@ -320,9 +320,9 @@ for program in "$@"; do
     try 0 "$checks/stacks/crash.explained" any --root . --explain crash.core
     try 0 "$checks/stacks/crash.fallback" any --root srv --explain crash.core
     # in parts: memory of the core file, of which more is asked for where no file has the code, and sections of the mapped file
-    try_in "$work/large" 0 "$checks/stacks/crash.stacks" "$work/nothing" --root . crash.core
-    try_in "$work/large" 0 "$checks/stacks/crash.explained" "$work/nothing" --root . --explain crash.core
-    try_in "$work/large" 0 "$checks/stacks/crash.fallback" any --root srv --explain crash.core
+    try_in "$work/enlarged" 0 "$checks/stacks/crash.stacks" "$work/nothing" --root . crash.core
+    try_in "$work/enlarged" 0 "$checks/stacks/crash.explained" "$work/nothing" --root . --explain crash.core
+    try_in "$work/enlarged" 0 "$checks/stacks/crash.fallback" any --root srv --explain crash.core
     try 0 "$checks/stacks/debug_frame.stacks" any --root . debug_frame.core
     try 0 "$checks/stacks/debug_frame.explained" any --root . --explain debug_frame.core
     # its .debug_frame is compressed by zlib: the same as it was before, and then by zstandard, in GNU's older form, and with another
