@@ -296,7 +296,7 @@ for program in "$@"; do
     program=$(realpath -- "$program")
     try 0 "$checks/stacks/tiny.frames" "$work/tiny.summary" --root . --frames tiny.data
     try 0 "$checks/stacks/tiny.limit" "$work/limit.summary" --root . --limit 3 tiny.data
-    try 0 "$work/uncovered.folded" "$work/uncovered.summary" --root . srv/uncovered.data
+    try 0 "$work/uncovered.folded" "$work/uncovered.summary" --root . uncovered.perf
     try 0 "$checks/stacks/crash.stacks" any --root . crash.core
     try 0 "$checks/stacks/crash.missing" any --root srv crash.core
     try 0 "$checks/stacks/crash.stacks" any --root srv --root . crash.core

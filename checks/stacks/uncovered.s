@@ -2,9 +2,9 @@
 # _start calls run, run calls work, aligned and odd, and work and odd call mix. In work the frame pointer is a counter; the
 # stack of aligned lies at a multiple of 32, and its caller's stack pointer in r11. The CFA of odd is by r10, which mix changes.
 #
-# For crates/framehop_stacks_cli/data/srv/uncovered and uncovered.data there:
+# For crates/framehop_stacks_cli/data/srv/uncovered and data/uncovered.perf:
 #   as -o uncovered.o uncovered.s && ld --build-id=sha1 -z noseparate-code -o /srv/uncovered uncovered.o
-#   perf record -o uncovered.data -e cpu-clock:u -F 900 --call-graph dwarf,512 env -i /srv/uncovered
+#   perf record -o uncovered.perf -e cpu-clock:u -F 900 --call-graph dwarf,512 env -i /srv/uncovered
         .text
         .globl  _start, run, work, mix, aligned, odd
 
