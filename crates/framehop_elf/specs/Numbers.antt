@@ -32,6 +32,9 @@ SHT_NOTE = 7
 abbrev pub SHT_NOBITS : ℕ
 SHT_NOBITS = 8
 
+abbrev pub SHF_EXECINSTR : ℕ
+SHF_EXECINSTR = 4
+
 abbrev pub SHF_COMPRESSED : ℕ
 SHF_COMPRESSED = 0x800
 
@@ -43,6 +46,9 @@ abbrev pub ELFCOMPRESS_ZSTD : ℕ
 ELFCOMPRESS_ZSTD = 2
 
 -- the types of symbols: the lower four bits of st_info
+abbrev pub STT_NOTYPE : ℕ
+STT_NOTYPE = 0
+
 abbrev pub STT_FUNC : ℕ
 STT_FUNC = 2
 

@@ -1,9 +1,11 @@
--- Symbols of functions (gABI, chapter 4, "Symbol Table").
+-- Symbols of functions and of labels in code (gABI, chapter 4, "Symbol Table").
 -- Which section has their names: "Sections", sh_link.
-use Rattle.std.specs.Prelude.{ℕ, ◌+◌, ◌-◌, ◌/◌, ◌%◌, List, [], ◌∷◌, length, map, filter, Bool, not, Option, Some, None, option_map, option_and_then, unwrap_or, slice_get, Result, Ok, Err, slice_index, nat_le, nat_lt, ◌&&◌, ◌||◌, ◌==◌, if◌then◌else◌}
+use Rattle.std.specs.Prelude.{ℕ, ◌+◌, ◌-◌, ◌/◌, ◌%◌, nat_eq, bit_and, codes, List, [], ◌∷◌, length, map, filter, Bool, false, not, Option, Some, None, option_map, option_and_then, unwrap_or, slice_get, Result, Ok, Err, slice_index, nat_le, nat_lt, ◌&&◌, ◌||◌, ◌==◌, if◌then◌else◌}
+use Rattle.std.specs.List.{starts_with}
 use Rattle.std.specs.Simd.{first_chunks}
 use Rattle.framehop_bytes.specs.Bytes.{◌>>=◌, le2, le4, le8}
-use Rattle.framehop_elf.specs.Numbers.{SHN_UNDEF, STT_FUNC, STT_GNU_IFUNC}
+use Rattle.framehop_bytes.specs.String.{string_of}
+use Rattle.framehop_elf.specs.Numbers.{SHN_UNDEF, SHF_EXECINSTR, STT_NOTYPE, STT_FUNC, STT_GNU_IFUNC}
 use Rattle.framehop_elf.specs.Section.{contents_of}
 use Rattle.framehop_elf.specs.declared.error.ElfError.{ElfError}
 use Rattle.framehop_elf.specs.declared.error.ElfError.TheVariants.{BadEntrySize, NoSuchSection}
@@ -19,6 +21,23 @@ abbrev pub is_function : List ℕ → Bool
 is_function entry =
     ((symbol_type entry == STT_FUNC) || (symbol_type entry == STT_GNU_IFUNC))
     && not (le2 entry 6 == SHN_UNDEF) && not (le8 entry 8 == 0)
+
+-- the section of an index has code
+abbrev pub is_code : List SectionHeader → ℕ → Bool
+is_code sections index =
+    unwrap_or (option_map (λ section. not (bit_and section.sh_flags SHF_EXECINSTR == 0)) (slice_get sections index)) false
+
+-- a name is that of a mapping symbol, which tells where code and data begin (ELF for the Arm 64-bit Architecture, "Mapping
+-- symbols")
+abbrev pub is_mapping : List ℕ → ℕ → Bool
+is_mapping names name = starts_with nat_eq (string_of names name) (codes "$")
+
+-- The entry of a label in code: its type is STT_NOTYPE, it has a name, its value is not 0, its section has code, and it is
+-- no mapping symbol.
+abbrev pub is_label : List SectionHeader → List ℕ → List ℕ → Bool
+is_label sections names entry =
+    (symbol_type entry == STT_NOTYPE) && not (le4 entry 0 == 0) && not (le8 entry 8 == 0)
+    && is_code sections (le2 entry 6) && not (is_mapping names (le4 entry 0))
 
 -- how many bytes of a section there are from an address on, none where the address is below the section
 abbrev pub size_from : ℕ → SectionHeader → ℕ
@@ -36,15 +55,23 @@ size_of sections entry =
 abbrev pub symbol_of : List SectionHeader → List ℕ → Symbol
 symbol_of sections entry = record { st_name = le4 entry 0; st_value = le8 entry 8; size = size_of sections entry }
 
--- the functions in a table's contents, whose entries have 24 bytes
-abbrev pub functions_in : List SectionHeader → List ℕ → List Symbol
-functions_in sections contents = map (symbol_of sections) (filter is_function (first_chunks 24 (length contents / 24) contents))
+-- the entries of a symbol table of the file, of 24 bytes each
+unfoldable pub entries_of : List ℕ → SectionHeader → Result (List (List ℕ)) ElfError
+entries_of file table = if not (table.sh_entsize == 24) then Err (BadEntrySize table.sh_offset) else (do
+  contents ← contents_of file table
+  Ok (first_chunks 24 (length contents / 24) contents))
 
 -- the functions of a symbol table of the file, which has these sections
 unfoldable pub function_symbols_of : List ℕ → List SectionHeader → SectionHeader → Result (List Symbol) ElfError
-function_symbols_of file sections table = if not (table.sh_entsize == 24) then Err (BadEntrySize table.sh_offset) else (do
-  contents ← contents_of file table
-  Ok (functions_in sections contents))
+function_symbols_of file sections table = do
+  entries ← entries_of file table
+  Ok (map (symbol_of sections) (filter is_function entries))
+
+-- its labels in code, by the string table that has their names
+unfoldable pub labels_of : List ℕ → List SectionHeader → SectionHeader → List ℕ → Result (List Symbol) ElfError
+labels_of file sections table names = do
+  entries ← entries_of file table
+  Ok (map (symbol_of sections) (filter (is_label sections names) entries))
 
 -- where a symbol begins
 abbrev pub start_of : Symbol → ℕ

@@ -1,16 +1,20 @@
-//! Symbols of functions, by their addresses.
+//! Symbols of functions, and of other places in code, by their addresses.
 ghost use Rattle.std.specs.Prelude.{◌≡◌, ◌≤◌, Ok, Err, MatchResult, IfOk, IfErr, IsPermutation, filter, length, map, nat_eq};
 ghost use Rattle.std.specs.List.Sorted.{IsNonDecreasingBy, IsStableByKey};
 ghost use Rattle.std.specs.Ordering.{nat_cmp};
 ghost use Rattle.framehop_elf.specs.Block.{IsErrorOf};
-ghost use Rattle.framehop_elf.specs.Symbol.{symbol_type, is_function, size_from, size_of, symbol_of, function_symbols_of, start_of, nearest_of, reaches, symbol_for, symbol_names_of};
+ghost use Rattle.framehop_elf.specs.Symbol.{symbol_type, is_function, is_code, is_mapping, is_label, size_from, size_of, symbol_of, entries_of, function_symbols_of, labels_of, start_of, nearest_of, reaches, symbol_for, symbol_names_of};
 
 use crate::error::ElfError;
 use crate::section::read_contents;
 use crate::section_header::SectionHeader;
 use framehop_bytes::bytes::{u16_at, u32_at, u64_at};
+use framehop_bytes::string::string_at;
 use std::alloc::{AllocError, Global};
 use std::marker::Model;
+
+/// `STT_NOTYPE`: the type of a label of hand-written code.
+const STT_NOTYPE: u8 = 0;
 
 /// `STT_FUNC`.
 const STT_FUNC: u8 = 2;
@@ -21,15 +25,18 @@ const STT_GNU_IFUNC: u8 = 10;
 /// `SHN_UNDEF`: the symbol is not defined in the file.
 const SHN_UNDEF: u16 = 0;
 
+/// `SHF_EXECINSTR`: the section has code.
+const SHF_EXECINSTR: u64 = 4;
+
 /// The size of a symbol, in bytes.
 const ENTRY_SIZE: usize = 24;
 
-/// The symbol of a function: `Elf64_Sym`.
+/// The symbol of a function or of a label: `Elf64_Sym`.
 #[derive(Clone, Copy, Debug, PartialEq, Eq)]
 pub struct Symbol {
     /// Where its name begins in the string table of the symbol table, in bytes.
     pub st_name: u32,
-    /// Where the function begins (SVMA).
+    /// Where the function begins, or the label is (SVMA).
     pub st_value: u64,
     /// How many bytes it has at most: its `st_size`, or, where that is 0, those to the end of its section.
     pub size: u64,
@@ -78,6 +85,42 @@ pub fn read_function_symbols(
         (λ symbols. function_symbols_of file.now sections.now table ≡ Ok symbols.items)
         (λ error. IsErrorOf (function_symbols_of file.now sections.now table) error) }
 {
+    let entries = read_entries(file, table)?;
+    Ok(functions(alloc, sections, entries)?)
+}
+
+/// Reads the labels in code among the symbols of a symbol table, in its order: symbols of type `STT_NOTYPE` that have a
+/// name, whose section has code and whose value is not 0. `names` has their names. The mapping symbols of aarch64, `$x`
+/// and `$d`, are no labels.
+///
+/// # Errors
+///
+/// Those of [`read_function_symbols`].
+///
+/// Source: System V gABI, chapter 4, "Symbol Table"; ELF for the Arm 64-bit Architecture, "Mapping symbols".
+#[tactic(auto, unfolding(crate::specs::Symbol::labels_of))]
+pub fn read_labels(
+    alloc: Global,
+    file: &[u8],
+    sections: &[SectionHeader],
+    table: SectionHeader,
+    names: &[u8],
+) -> Result<Vec<Symbol>, ElfError>
+    ensures { MatchResult result
+        (λ symbols. labels_of file.now sections.now table names.now ≡ Ok symbols.items)
+        (λ error. IsErrorOf (labels_of file.now sections.now table names.now) error) }
+{
+    let entries = read_entries(file, table)?;
+    Ok(labels(alloc, sections, names, entries)?)
+}
+
+/// Returns the entries of a symbol table.
+#[tactic(auto, unfolding(crate::specs::Symbol::entries_of))]
+fn read_entries(file: &[u8], table: SectionHeader) -> Result<&[[u8; ENTRY_SIZE]], ElfError>
+    ensures { MatchResult result
+        (λ entries. entries_of file.entry.now table ≡ Ok entries.now)
+        (λ error. entries_of file.entry.now table ≡ Err error) }
+{
     if table.sh_entsize != ENTRY_SIZE as u64 {
         return Err(ElfError::BadEntrySize {
             offset: table.sh_offset,
@@ -85,7 +128,7 @@ pub fn read_function_symbols(
     }
     let contents = read_contents(file, table)?;
     let (entries, _) = contents.as_chunks::<ENTRY_SIZE>();
-    Ok(functions(alloc, sections, entries)?)
+    Ok(entries)
 }
 
 /// Returns the symbols of the functions among these entries.
@@ -111,6 +154,50 @@ fn is_function(entry: &[u8; ENTRY_SIZE]) -> bool
     (kind == STT_FUNC || kind == STT_GNU_IFUNC)
         && u16_at(entry, 6) != SHN_UNDEF
         && u64_at(entry, 8) != 0
+}
+
+/// Returns the symbols of the labels among these entries.
+fn labels(
+    alloc: Global,
+    sections: &[SectionHeader],
+    names: &[u8],
+    entries: &[[u8; ENTRY_SIZE]],
+) -> Result<Vec<Symbol>, AllocError>
+    ensures { IfOk result (λ symbols. symbols.items ≡ map (symbol_of sections.now) (filter (is_label sections.now names.now) entries.now)) }
+{
+    entries
+        .iter()
+        .filter(|entry| is_label(sections, names, *entry))
+        .map(|entry| read_symbol(sections, entry))
+        .collect(alloc)
+}
+
+/// Returns whether an entry is of a label in code.
+fn is_label(sections: &[SectionHeader], names: &[u8], entry: &[u8; ENTRY_SIZE]) -> bool
+    ensures { result ≡ is_label sections.now names.now entry.now }
+{
+    symbol_type(entry) == STT_NOTYPE
+        && u32_at(entry, 0) != 0
+        && u64_at(entry, 8) != 0
+        && is_code(sections, u16_at(entry, 6))
+        && !is_mapping(names, u32_at(entry, 0))
+}
+
+/// Returns whether a section has code, by its index.
+fn is_code(sections: &[SectionHeader], index: u16) -> bool
+    ensures { result ≡ is_code sections.now index }
+{
+    match sections.get(usize::from(index)) {
+        Some(section) => section.sh_flags & SHF_EXECINSTR != 0,
+        None => false,
+    }
+}
+
+/// Returns whether a name is that of a mapping symbol, which tells where code and data begin.
+fn is_mapping(names: &[u8], st_name: u32) -> bool
+    ensures { result ≡ is_mapping names.now st_name }
+{
+    string_at(names, st_name).starts_with(b"$")
 }
 
 /// Returns the type of an entry's symbol: the lower half of `st_info`.
@@ -205,6 +292,13 @@ impl SymbolTable {
         self.symbols.is_empty()
     }
 
+    /// Returns the symbol that begins last of those at or below an address (SVMA); of several there the last in the table.
+    pub fn nearest(&self, svma: u64) -> Option<Symbol>
+        ensures { result ≡ nearest_of self.now svma }
+    {
+        nearest(self.symbols.as_slice(), svma)
+    }
+
     /// Returns the symbol of the function that has an address (SVMA): the one with the greatest start at
     /// or below it, if the address is before its end. A symbol without a size reaches to the next one, or
     /// to the end of its section. Of symbols that begin at one address it is the last: in a symbol table a
@@ -212,7 +306,7 @@ impl SymbolTable {
     pub fn symbol_for(&self, svma: u64) -> Option<Symbol>
         ensures { result ≡ symbol_for self.now svma }
     {
-        let symbol = nearest(self.symbols.as_slice(), svma)?;
+        let symbol = self.nearest(svma)?;
         if reaches(symbol, svma) {
             Some(symbol)
         } else {

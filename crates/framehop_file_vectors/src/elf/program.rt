@@ -25,6 +25,7 @@ use framehop_elf::segment::loaded_segments;
 use framehop_elf::symbol::{SymbolTable, read_function_symbols, read_symbol_names};
 use framehop_elf::unwind_sections::read_unwind_sections;
 use framehop_memory::segment::{Segment, base_avma, base_from, svma_of_file_offset};
+use framehop_symbols::object_file::ObjectFile;
 use std::alloc::Global;
 use std::test::Fail;
 
@@ -300,6 +301,41 @@ fn finds_functions(rt: HostRuntime) -> Result<(), Fail> {
     holds(has_functions_with(alloc, &[(480, 0)])?)?;
     // `outer` is of type STT_GNU_IFUNC
     holds(has_functions_with(alloc, &[(516, 0x1a)])?)
+}
+
+/// Whether the file, with other bytes at offsets, has the name of each address but one, which has none.
+fn names_all_but(alloc: Global, bytes: &[(usize, u8)], without: u64) -> Result<bool, Fail> {
+    let object = ObjectFile::new(alloc, read_changed(alloc, bytes)?.file, &[])?;
+    for (svma, name) in NAMES {
+        let name = if svma == without { None } else { name };
+        let found = object.function_at(svma).map(|found| found.0);
+        if found != name.map(|name| name.as_bytes()) {
+            return Ok(false);
+        }
+    }
+    Ok(true)
+}
+
+/// Whether the file, with other bytes at offsets, has no name of an address.
+fn is_unnamed(alloc: Global, bytes: &[(usize, u8)], svma: u64) -> Result<bool, Fail> {
+    let object = ObjectFile::new(alloc, read_changed(alloc, bytes)?.file, &[])?;
+    Ok(object.function_at(svma).is_none())
+}
+
+#[test]
+fn names_what_is_after_a_label(rt: HostRuntime) -> Result<(), Fail> {
+    let alloc = rt.alloc();
+    // `_start` is of type STT_NOTYPE, and has no size: it ends with `.text`
+    let label = [(468, 0x10), (480, 0)];
+    holds(names_all_but(alloc, &label, 0)?)?;
+    // so is `inner`, which ends where `outer` begins
+    holds(names_all_but(alloc, &[(444, 0), (456, 0)], 0)?)?;
+    // `outer` ends before its last byte, and `inner`, a label without a size, is before it
+    holds(names_all_but(alloc, &[(444, 0), (456, 0), (528, 8)], 0x400118)?)?;
+    // `.text` is not SHF_EXECINSTR
+    holds(is_unnamed(alloc, &[(444, 0), (832, 2)], 0x40010c)?)?;
+    // the name is that of a mapping symbol
+    holds(is_unnamed(alloc, &[(444, 0), (593, b'$')], 0x40010c)?)
 }
 
 /// e_shnum 0, e_phnum PN_XNUM and e_shstrndx SHN_XINDEX, and in the first section header sh_size, sh_info
