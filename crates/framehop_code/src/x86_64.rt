@@ -5,6 +5,7 @@ ghost use Rattle.framehop_cfi.specs.X86_64 as columns;
 
 pub mod action;
 pub mod instruction;
+pub mod kept;
 pub mod opcode;
 pub mod operand;
 pub mod operation;

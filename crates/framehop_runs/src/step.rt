@@ -1,12 +1,13 @@
 //! What a run knows after an instruction.
 ghost use Rattle.std.specs.Prelude.{◌≡◌, ℕ, List, Bool, Some, None, option_map, nat_lt};
+ghost use Rattle.framehop_code.specs.X86_64.Action.{action_at};
 ghost use Rattle.framehop_runs.specs.State.{left_by};
 ghost use Rattle.framehop_runs.specs.Step.{Source as RunSource, after, on_at, changed, takes, with_loop, met, branched, jumped, counted, passed_over, with_call_at, entered, is_entered, has_some, called, returned, is_own_return, returned_to, done, checked, stepped, step_of};
 
 use crate::state::{State, computed_of};
 use framehop_cfi::rule::Register;
 use framehop_cfi::x86_64::RSP;
-use framehop_code::x86_64::action::{Action, Instruction, Registers, Stored, Width, action_at};
+use framehop_code::x86_64::action::{Action, Instruction, Registers, Stored, Width};
 use framehop_columns::memory::WordMemory;
 
 /// The register that LOOP counts down.
@@ -27,6 +28,10 @@ pub trait RunMemory: WordMemory {
     /// Returns at most 15 bytes of code from an address (AVMA) on, or none where no code is at hand.
     fn code_at(&self, address: u64) -> &[u8]
         ensures { result.now ≡ code self.now address };
+
+    /// Returns the instruction at an address (AVMA), by that code.
+    fn instruction_at(&self, address: u64) -> Option<Instruction>
+        ensures { result ≡ action_at (code self.now address) 0 };
 
     /// Returns whether unwind data covers the function at an address (AVMA). Its call is passed over.
     fn is_covered(&self, address: u64) -> bool
@@ -51,7 +56,7 @@ impl State {
     pub(crate) fn step<M: RunMemory>(&mut self, memory: &M, forward: bool) -> Step
         ensures { after result self.new ≡ step_of (record { memory = M.WordMemory.memory memory.now; code = M.code memory.now; is_covered = M.covers memory.now }) forward self.old }
     {
-        match action_at(memory.code_at(self.address), 0) {
+        match memory.instruction_at(self.address) {
             Some(instruction) => self.step_by(memory, forward, instruction),
             None => Step::GivenUp,
         }

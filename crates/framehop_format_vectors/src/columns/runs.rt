@@ -4,6 +4,7 @@ ghost use Rattle.std.specs.Prelude.{ℕ, Option, ◌≡◌, nat_lt, if◌then◌
 use crate::columns::frames::{bytes_of, memory_of};
 use framehop_cfi::rule::Register;
 use framehop_cfi::x86_64::{R15, RA, RBP, RBX, RSP};
+use framehop_code::x86_64::action::{Instruction, action_at};
 use framehop_columns::memory::WordMemory;
 use framehop_columns::register_file::RegisterFile;
 use framehop_runs::run::{RunCaller, caller_by_runs};
@@ -46,6 +47,10 @@ impl<M: WordMemory> RunMemory for Process<'_, M> {
         else (if nat_lt (length process.code.now) (address - 0x1000) then [] else drop (address - 0x1000) process.code.now) };
 
     ghost covers = { λ process address. address == process.covered };
+
+    fn instruction_at(&self, address: u64) -> Option<Instruction> {
+        action_at(self.code_at(address), 0)
+    }
 
     fn code_at(&self, address: u64) -> &[u8] {
         if address < CODE {
