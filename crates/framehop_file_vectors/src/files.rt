@@ -8,6 +8,7 @@ use framehop_symbols::debug_frame::debug_frame_at;
 use framehop_symbols::files::{FileSource, Files};
 use framehop_symbols::object_file::FileProblem;
 use framehop_symbols::place::place_of;
+use framehop_symbols::read_refusal::ReadRefusal;
 use std::alloc::{AllocError, Global};
 use std::test::Fail;
 
@@ -26,11 +27,15 @@ impl FileSource for OneFile<'_> {
       gives_debug = λ name build_id link given. Unit {0};
     } };
 
-    fn read_file(&self, name: &[u8], _build_id: &[u8]) -> Result<Option<Vec<u8>>, AllocError> {
+    fn read_file(
+        &self,
+        name: &[u8],
+        _build_id: &[u8],
+    ) -> Result<Result<Vec<u8>, ReadRefusal>, AllocError> {
         if name == b"/bin/small".as_slice() {
-            Ok(Some(Vec::from_slice(self.alloc, self.bytes)?))
+            Ok(Ok(Vec::from_slice(self.alloc, self.bytes)?))
         } else {
-            Ok(None)
+            Ok(Err(ReadRefusal::NotThere))
         }
     }
 
@@ -71,8 +76,16 @@ const PROBLEMS: [(&[u8], bool, Option<FileProblem>); 5] = [
     (b"/bin/small", false, None),
     (b"/bin/small", true, None),
     (b"/bin/small (deleted)", true, None),
-    (b"/bin/small (deleted)", false, Some(FileProblem::NotRead)),
-    (b"/bin/other", true, Some(FileProblem::NotRead)),
+    (
+        b"/bin/small (deleted)",
+        false,
+        Some(FileProblem::NotRead(ReadRefusal::Deleted)),
+    ),
+    (
+        b"/bin/other",
+        true,
+        Some(FileProblem::NotRead(ReadRefusal::NotThere)),
+    ),
 ];
 
 #[test]

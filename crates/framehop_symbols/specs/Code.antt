@@ -1,38 +1,21 @@
 -- The code of the files that processes map.
-use Rattle.std.specs.Prelude.{ℕ, ◌+◌, ◌-◌, ◌^◌, min, max, nat_le, nat_lt, Bool, ◌&&◌, List, [], ◌∷◌, drop, length, Option, None, option_map, option_and_then, if◌then◌else◌}
+use Rattle.std.specs.Prelude.{ℕ, ◌-◌, nat_le, nat_lt, Bool, false, ◌&&◌, List, drop, length, Option, Some, None, option_map, option_and_then, if◌then◌else◌}
 use Rattle.std.specs.List.{find}
 use Rattle.std.specs.Option.{is_some}
 use Rattle.framehop_processes.specs.declared.mapping.Mapping.{Mapping}
 use Rattle.framehop_symbols.specs.Place.{has_address}
 use Rattle.framehop_memory.specs.declared.segment.Segment.{Segment}
-use Rattle.framehop_symbols.specs.ObjectFiles.{CodeView, code_view}
-use Rattle.framehop_symbols.specs.declared.code.Extent.{Extent}
+use Rattle.framehop_symbols.specs.ObjectFiles.{CodeView, code_view, is_at_entry as is_at_entry_of}
 use Rattle.framehop_symbols.specs.declared.code.SegmentCode.{SegmentCode}
 use Rattle.framehop_symbols.specs.Files.{object_in}
 use Rattle.framehop_symbols.specs.declared.object_file.ObjectFile.{ObjectFile}
 use Rattle.framehop_symbols.specs.declared.files.Files.{Files}
 
--- What is kept of a file: its bytes from the least offset to the greatest end of the segments that may be executed.
--- No offset is above the last number of 64 bits, and no end.
-abbrev pub extended : Extent → Segment → Extent
-extended extent segment =
-    if segment.is_code then (record {
-      start = min extent.start segment.offset;
-      end = max extent.end (min (segment.offset + segment.file_size) (2 ^ 64 - 1));
-    }) else extent
-
-abbrev pub extent_over : List Segment → Extent → Extent
-extent_over [] extent = extent
-extent_over (segment ∷ segments) extent = extent_over segments (extended extent segment)
-
-abbrev pub extent_of : List Segment → Extent
-extent_of segments = extent_over segments (record { start = 2 ^ 64 - 1; end = 0 })
-
--- where the bytes of a segment are in it
-abbrev pub segment_in : Extent → Segment → SegmentCode
-segment_in extent segment = record {
+-- where the bytes of a segment are in its file
+abbrev pub segment_code : Segment → SegmentCode
+segment_code segment = record {
   start = segment.address;
-  offset = segment.offset - extent.start;
+  offset = segment.offset;
   size = if segment.is_code then segment.file_size else 0;
 }
 
@@ -60,3 +43,20 @@ code_at files mappings address = option_and_then (code_in_mapping files address)
 -- an address is in a mapping
 abbrev pub is_mapped : List Mapping → ℕ → Bool
 is_mapped mappings address = is_some (find (has_address address) mappings)
+
+-- an address is in the code with which a process begins in a file
+abbrev pub is_at_entry_in : ℕ → Option ObjectFile → Bool
+is_at_entry_in svma (Some object) = is_at_entry_of object.entry svma
+is_at_entry_in svma None = false
+
+-- the same of an address (AVMA) of a mapping, and by the mapping that has the address
+abbrev pub entry_in_mapping : Files → ℕ → Mapping → Bool
+entry_in_mapping files address mapping =
+    if mapping.has_sections then is_at_entry_in (address - mapping.base_avma) (object_in files mapping.file) else false
+
+abbrev pub is_at_entry_by : Files → ℕ → Option Mapping → Bool
+is_at_entry_by files address (Some mapping) = entry_in_mapping files address mapping
+is_at_entry_by files address None = false
+
+abbrev pub is_at_entry : Files → List Mapping → ℕ → Bool
+is_at_entry files mappings address = is_at_entry_by files address (find (has_address address) mappings)

@@ -1,9 +1,10 @@
 -- The files that processes map, and the modules of mappings.
-use Rattle.std.specs.Prelude.{◌≡◌, ◌≢◌, ◌⊎◌, ℕ, nat_eq, IsSome, is_some, List, [], ◌∷◌, ◌++◌, length, take, drop, ◌-◌, ◌==◌, if◌then◌else◌, codes, Option, Some, None, option_and_then, slice_get, slice_set, Bool, true, false, not, ◌&&◌, ◌||◌}
+use Rattle.std.specs.Prelude.{◌≡◌, ◌≢◌, ◌⊎◌, ℕ, nat_eq, IsSome, is_some, List, [], ◌∷◌, ◌++◌, length, take, drop, ◌-◌, ◌==◌, if◌then◌else◌, codes, Option, Some, None, option_and_then, slice_get, slice_set, Result, Ok, Err, Vec, Bool, true, false, not, ◌&&◌, ◌||◌}
 use Rattle.std.specs.BTreeMap.{get, get_by}
 use Rattle.std.specs.Cmp.Lexicographic.{pointwise, slice_cmp}
 use Rattle.std.specs.List.{starts_with}
 use Rattle.std.specs.Ordering.{nat_cmp}
+use Rattle.std.specs.declared.alloc.Global.{Global}
 use Rattle.framehop.specs.Modules.{ModuleView}
 use Rattle.framehop_processes.specs.declared.mapping.Mapping.{Mapping}
 use Rattle.framehop_symbols.specs.ObjectFiles.{Listed, problem_of, debug_tables_of, bare_module, IsKeptOf}
@@ -12,6 +13,8 @@ use Rattle.framehop_symbols.specs.declared.code_map.CodeMap.{CodeMap}
 use Rattle.framehop_symbols.specs.declared.object_file.ObjectFile.{ObjectFile}
 use Rattle.framehop_symbols.specs.declared.object_file.FileProblem.{FileProblem}
 use Rattle.framehop_symbols.specs.declared.object_file.FileProblem.TheVariants.{NotRead}
+use Rattle.framehop_symbols.specs.declared.read_refusal.ReadRefusal.{ReadRefusal}
+use Rattle.framehop_symbols.specs.declared.read_refusal.ReadRefusal.TheVariants.{Deleted}
 use Rattle.framehop_symbols.specs.declared.files.Files.{Files}
 use Rattle.framehop_symbols.specs.declared.files.NamedFile.{NamedFile}
 
@@ -101,13 +104,23 @@ is_read name = is_path name || is_vdso name
 -- what is told of a problem: nothing of a vdso (`false`) that is not there
 abbrev pub told_of : Bool → FileProblem → Option FileProblem
 told_of true problem = Some problem
-told_of false NotRead = None
+told_of false (NotRead why) = None
 told_of false problem = Some problem
 
 -- why nothing is kept of a file that is given or not
-abbrev pub IsProblem : Option (List ℕ) → List ℕ → FileProblem → Type 0
-IsProblem None wanted problem = problem ≡ NotRead
-IsProblem (Some bytes) wanted problem = problem_of bytes wanted ≡ Some problem
+abbrev pub IsProblem : Result (List ℕ) ReadRefusal → List ℕ → FileProblem → Type 0
+IsProblem (Err why) wanted problem = problem ≡ NotRead why
+IsProblem (Ok bytes) wanted problem = problem_of bytes wanted ≡ Some problem
+
+-- nothing can be kept of a copy that is given or not
+abbrev pub IsUnusable : Option (List ℕ) → List ℕ → Type 0
+IsUnusable None wanted = Unit {0}
+IsUnusable (Some bytes) wanted = (problem : FileProblem) × (problem_of bytes wanted ≡ Some problem)
+
+-- the bytes of a file that is given, or why it is not
+abbrev pub given_bytes : Result (Vec ℕ Global) ReadRefusal → Result (List ℕ) ReadRefusal
+given_bytes (Ok bytes) = Ok bytes.items
+given_bytes (Err why) = Err why
 
 -- the symbol tables of a debug file that is given or not
 abbrev pub debug_tables_in : List ℕ → Option (List ℕ) → List Listed
@@ -173,29 +186,28 @@ module _ (source : SourceView) where
       × (tables ≡ debug_tables_in (byte ∷ bytes) given)
 
   -- what is given for a name and the build id that is wanted, if the source is asked
-  abbrev pub IsGivenIf : Bool → List ℕ → List ℕ → Option (List ℕ) → Type 0
+  abbrev pub IsGivenIf : Bool → List ℕ → List ℕ → Result (List ℕ) ReadRefusal → Type 0
   IsGivenIf true name wanted given = source.gives (path_of name) wanted given
-  IsGivenIf false name wanted given = given ≡ None
+  IsGivenIf false name wanted given = given ≡ Err Deleted
 
-  abbrev pub IsGiven : List ℕ → List ℕ → Option (List ℕ) → Type 0
+  abbrev pub IsGiven : List ℕ → List ℕ → Result (List ℕ) ReadRefusal → Type 0
   IsGiven name wanted given = IsGivenIf (is_asked name wanted) name wanted given
 
   -- the bytes of a file by its name, and by the build id that is wanted of it, if one is
   abbrev pub IsNamed : List ℕ → List ℕ → List ℕ → Type 0
-  IsNamed name wanted bytes = IsGiven name wanted (Some bytes) × (problem_of bytes wanted ≡ None)
+  IsNamed name wanted bytes = IsGiven name wanted (Ok bytes) × (problem_of bytes wanted ≡ None)
 
   abbrev pub IsCopied : List ℕ → List ℕ → Type 0
   IsCopied wanted bytes = (wanted ≢ []) × source.gives_copied wanted (Some bytes) × (problem_of bytes wanted ≡ None)
 
   -- why none is kept by its name
   abbrev pub IsRefused : List ℕ → List ℕ → FileProblem → Type 0
-  IsRefused name wanted problem = (given : Option (List ℕ)) × IsGiven name wanted given × IsProblem given wanted problem
+  IsRefused name wanted problem = (given : Result (List ℕ) ReadRefusal) × IsGiven name wanted given × IsProblem given wanted problem
 
   -- and none by its build id
   abbrev pub IsNotCopied : List ℕ → Type 0
   IsNotCopied wanted =
-      (wanted ≡ [])
-      ⊎ ((given : Option (List ℕ)) × source.gives_copied wanted given × ((problem : FileProblem) × IsProblem given wanted problem))
+      (wanted ≡ []) ⊎ ((given : Option (List ℕ)) × source.gives_copied wanted given × IsUnusable given wanted)
 
   -- a file that is kept, with its debug names, by what is given of both: the one of its name, or else the one of the build
   -- id

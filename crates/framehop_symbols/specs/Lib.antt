@@ -1,4 +1,5 @@
 -- What the contracts of this crate cite: the files that processes map, and where addresses are in them.
+pub mod ReadRefusal
 pub mod Source
 pub mod MadeUpId
 pub mod MappedBytes

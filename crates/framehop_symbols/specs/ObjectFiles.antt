@@ -1,6 +1,6 @@
 -- What is kept of the files that processes map, ELF files and PE files, by their bytes.
 -- What a PE file is: Microsoft, "PE Format", by the readers of `framehop_pe_file`.
-use Rattle.std.specs.Prelude.{◌≡◌, ◌⊎◌, ℕ, nat_eq, bit_and, ◌==◌, List, [], ◌∷◌, ◌++◌, map, take, drop, codes, Bool, false, not, ◌&&◌, ◌||◌, length, if◌then◌else◌, Option, Some, None, option_to_list, unwrap_or, Result, Ok, Err}
+use Rattle.std.specs.Prelude.{◌≡◌, ◌⊎◌, ℕ, ◌-◌, nat_eq, nat_le, nat_lt, bit_and, ◌==◌, List, [], ◌∷◌, ◌++◌, map, take, drop, codes, Bool, false, not, ◌&&◌, ◌||◌, length, if◌then◌else◌, Option, Some, None, option_to_list, unwrap_or, Result, Ok, Err}
 use Rattle.std.specs.List.{starts_with, filter, list_any}
 use Rattle.std.specs.Cmp.Lexicographic.{pointwise}
 use Rattle.std.specs.List.Sorted.{IsPermutation, IsStableByKey}
@@ -16,7 +16,7 @@ use Rattle.framehop_elf.specs.Segment.{loaded_segments_of}
 use Rattle.framehop_elf.specs.Section.{contents_of as contents_in, section_called, section_names_of}
 use Rattle.framehop_elf.specs.SectionHeader.{section_headers_of}
 use Rattle.framehop_bytes.specs.String.{before_nul}
-use Rattle.framehop_elf.specs.Symbol.{start_of, function_symbols_of, symbol_names_of}
+use Rattle.framehop_elf.specs.Symbol.{start_of, function_symbols_of, labels_of, symbol_names_of}
 use Rattle.framehop_elf.specs.UnwindSections.{unwind_sections_of, debug_frame_of, bytes_or_none, has_eh_frame, debug_frame_sections_of}
 use Rattle.framehop_elf.specs.declared.decompressed.ContentsError.{ContentsError}
 use Rattle.framehop_elf.specs.declared.error.ElfError.{ElfError}
@@ -46,14 +46,20 @@ use Rattle.framehop_symbols.specs.declared.object_file.FileProblem.TheVariants.{
 use Rattle.framehop_symbols.specs.declared.object_file.Headers.{Headers}
 use Rattle.framehop_symbols.specs.declared.object_file.Symbols.{Symbols}
 
--- the segments and the sections of a file, and the names of its sections
+-- where a process begins in a file, or 0, its segments and sections, and the names of its sections
 pub record HeadersView : Type 0 where
+  pub entry : ℕ
   pub segments : List ProgramHeader
   pub sections : List SectionHeader
   pub names : List ℕ
 
 abbrev pub headers_view : Headers → HeadersView
-headers_view h = record { segments = h.segments.items; sections = h.sections.items; names = h.names.now }
+headers_view h = record {
+  entry = h.entry;
+  segments = h.segments.items;
+  sections = h.sections.items;
+  names = h.names.now;
+}
 
 -- the headers of a file's bytes, or the first refusal
 unfoldable pub headers_of : List ℕ → Result HeadersView ElfError
@@ -62,7 +68,7 @@ headers_of file = do
   segments ← program_headers_of file header
   sections ← section_headers_of file header
   names ← section_names_of file header sections
-  Ok (record { segments = segments; sections = sections; names = names })
+  Ok (record { entry = header.e_entry; segments = segments; sections = sections; names = names })
 
 -- the build id of a file, no bytes where it has none
 abbrev pub build_id_in : List ℕ → HeadersView → List ℕ
@@ -92,18 +98,28 @@ is_another (byte ∷ bytes) found = not (pointwise nat_eq found (byte ∷ bytes)
 abbrev pub is_another_file : List ℕ → List ℕ → List ℕ → Bool
 is_another_file wanted found file = is_another wanted found && not ((length found == 0) && is_made_up wanted file)
 
--- the functions of a symbol table in its order, and the strings that have their names
-abbrev pub Listed : Type 0
-Listed = List Symbol × List ℕ
+-- the functions and the labels of a symbol table in its order, and the strings that have their names
+pub record Listed : Type 0 where
+  pub functions : List Symbol
+  pub labels : List Symbol
+  pub names : List ℕ
 
--- those of a section, if both can be read
+abbrev pub listed : List Symbol → List Symbol → List ℕ → Listed
+listed functions labels names = record { functions = functions; labels = labels; names = names }
+
+-- those of a section, if all can be read
+unfoldable pub listed_of : List ℕ → List SectionHeader → SectionHeader → List ℕ → Result Listed ElfError
+listed_of file sections table names = do
+  functions ← function_symbols_of file sections table
+  labels ← labels_of file sections table names
+  Ok (listed functions labels names)
+
 unfoldable pub symbols_of : List ℕ → List SectionHeader → SectionHeader → Result Listed ElfError
 symbols_of file sections table = do
   names ← symbol_names_of file sections table
-  functions ← function_symbols_of file sections table
-  Ok (functions, names)
+  listed_of file sections table names
 
--- the functions of a symbol table with their names, if there is one
+-- the functions and labels of a symbol table with their names, if there is one
 abbrev pub symbols_in : List ℕ → List SectionHeader → Option SectionHeader → Option Listed
 symbols_in file sections None = None
 symbols_in file sections (Some table) = result_ok (symbols_of file sections table)
@@ -154,16 +170,18 @@ abbrev pub is_so_plain : List ℕ → ℕ → Symbol → Bool
 is_so_plain names plainness symbol = plainness_in names symbol == plainness
 
 -- functions with the plainest names last, else in their order
-abbrev pub by_plainness : Listed → List Symbol
-by_plainness listed = filter (is_so_plain listed.1 0) listed.0
-    ++ (filter (is_so_plain listed.1 1) listed.0 ++ filter (is_so_plain listed.1 2) listed.0)
+abbrev pub by_plainness : List Symbol → List ℕ → List Symbol
+by_plainness functions names = filter (is_so_plain names 0) functions
+    ++ (filter (is_so_plain names 1) functions ++ filter (is_so_plain names 2) functions)
 
 -- A table as it is kept: its functions in the order of their starts, of those of one start the plainest name last, else in
--- the order of the table.
+-- the order of the table; and its labels in the order of their addresses.
 pub record IsTable (listed : Listed) (symbols : Symbols) : Type 0 where
-  pub all : IsPermutation (by_plainness listed) symbols.table
-  pub order : IsStableByKey start_of nat_cmp (by_plainness listed) symbols.table
-  pub names : symbols.names.items ≡ listed.1
+  pub all : IsPermutation (by_plainness listed.functions listed.names) symbols.table
+  pub order : IsStableByKey start_of nat_cmp (by_plainness listed.functions listed.names) symbols.table
+  pub all_labels : IsPermutation listed.labels symbols.labels
+  pub order_of_labels : IsStableByKey start_of nat_cmp listed.labels symbols.labels
+  pub names : symbols.names.items ≡ listed.names
 
 -- the same of all tables
 abbrev pub AreTables : List Listed → List Symbols → Type 0
@@ -225,12 +243,12 @@ pub record CodeView : Type 0 where
   pub start : ℕ
   pub bytes : List ℕ
 
--- that of a segment, by where its bytes are among those that are kept of its file; and that of all segments
+-- that of a segment, by where its bytes are in its file; and that of all segments
 abbrev pub segment_view : List ℕ → SegmentCode → CodeView
-segment_view kept segment = record { start = segment.start; bytes = take segment.size (drop segment.offset kept) }
+segment_view file segment = record { start = segment.start; bytes = take segment.size (drop segment.offset file) }
 
 abbrev pub code_view : FileCode → List CodeView
-code_view code = map (segment_view code.bytes.items) code.segments.items
+code_view code = map (segment_view code.file.items) code.segments.items
 
 abbrev pub code_of_segment : List ℕ → Segment → CodeView
 code_of_segment file segment = record {
@@ -241,9 +259,15 @@ code_of_segment file segment = record {
 abbrev pub code_of : List ℕ → List Segment → List CodeView
 code_of file segments = map (code_of_segment file) segments
 
--- what a file says that is kept: its segments, their code, its build id, its modules and its symbol tables
+-- an address is in the code with which a process begins: in the 64 bytes from an entry point on, if there is one
+abbrev pub is_at_entry : ℕ → ℕ → Bool
+is_at_entry entry svma = not (entry == 0) && nat_le entry svma && nat_lt (svma - entry) 64
+
+-- what a file says that is kept: its segments, their code, where a process begins in it, its build id, its modules and its
+-- symbol tables
 pub record Contents : Type 0 where
   pub segments : List Segment
+  pub entry : ℕ
   pub code : List CodeView
   pub build_id : List ℕ
   pub debug_link : List ℕ
@@ -256,6 +280,7 @@ pub record Contents : Type 0 where
 abbrev pub elf_contents : List ℕ → HeadersView → Contents
 elf_contents file headers = record {
   segments = loaded_segments_of headers.segments;
+  entry = headers.entry;
   code = code_of file (loaded_segments_of headers.segments);
   build_id = build_id_in file headers;
   debug_link = debug_link_in file headers;
@@ -309,7 +334,7 @@ pdata_of file header sections = unwrap_or (pe_unwind_sections_of file header sec
 
 -- the functions that a file exports, whose names lie in its export directory: a symbol table, if the directory can be read
 abbrev pub export_tables_in : FileHeader → List ℕ → Result (List ℕ) PeError → List Listed
-export_tables_in header pdata (Ok directory) = (exported_symbols_of header pdata directory, directory) ∷ []
+export_tables_in header pdata (Ok directory) = listed (exported_symbols_of header pdata directory) [] directory ∷ []
 export_tables_in header pdata (Err error) = []
 
 abbrev pub export_tables_of : List ℕ → FileHeader → List PeSectionHeader → List Listed
@@ -320,6 +345,7 @@ export_tables_of file header sections =
 abbrev pub pe_contents : List ℕ → FileHeader → List PeSectionHeader → Contents
 pe_contents file header sections = record {
   segments = map segment_of sections;
+  entry = 0;
   code = code_of file (map segment_of sections);
   build_id = identity_of file header sections;
   debug_link = [];
@@ -374,6 +400,7 @@ IsOutOfMemory problem = (problem ≡ Elf ElfOutOfMemory) ⊎ (problem ≡ Pe PeO
 -- what is kept of a file with these contents, and of the symbol tables of its debug file
 pub record IsKeptBy (contents : Contents) (debug : List Listed) (object : ObjectFile) : Type 0 where
   pub segments : object.segments.items ≡ contents.segments
+  pub entry : object.entry ≡ contents.entry
   pub code : code_view object.code ≡ contents.code
   pub build_id : object.build_id.items ≡ contents.build_id
   pub debug_link : object.debug_link.items ≡ contents.debug_link
@@ -381,6 +408,11 @@ pub record IsKeptBy (contents : Contents) (debug : List Listed) (object : Object
   pub loaded : object.«module» ≡ contents.loaded
   pub debug_frame : object.debug_frame ≡ contents.debug_frame
   pub tables : AreTables (debug ++ contents.tables) object.symbols.items
+
+-- the same of all but the code: with that of the file it is what is kept
+abbrev pub IsKeptWith : List ℕ → Contents → List Listed → ObjectFile → Type 0
+IsKeptWith file contents debug object =
+    (code : FileCode) → code_view code ≡ code_of file object.segments.items → IsKeptBy contents debug (record object { code = code })
 
 abbrev pub IsKeptOf : List ℕ → List Listed → ObjectFile → Type 0
 IsKeptOf file debug object =

@@ -1,8 +1,8 @@
 -- Where an address is: in which function of which file.
-use Rattle.std.specs.Prelude.{ℕ, ◌-◌, ◌^◌, List, [], ◌∷◌, ◌&&◌, nat_le, nat_lt, Bool, true, false, if◌then◌else◌, Option, Some, None, slice_get}
+use Rattle.std.specs.Prelude.{ℕ, ◌-◌, ◌^◌, List, [], ◌∷◌, ◌&&◌, nat_le, nat_lt, Bool, true, false, if◌then◌else◌, Option, Some, None, option_and_then, slice_get}
 use Rattle.std.specs.List.{find}
 use Rattle.framehop_bytes.specs.String.{string_of}
-use Rattle.framehop_elf.specs.Symbol.{symbol_for}
+use Rattle.framehop_elf.specs.Symbol.{nearest_of, symbol_for}
 use Rattle.framehop_elf.specs.declared.symbol.Symbol.{Symbol}
 use Rattle.framehop_processes.specs.declared.mapping.Mapping.{Mapping}
 use Rattle.framehop_symbols.specs.CodeMap.{code_name_at}
@@ -37,6 +37,21 @@ abbrev pub or_else : {A : Type 0} → Option A → Option A → Option A
 or_else (Some first) second = Some first
 or_else None second = second
 
+-- a label is after the start of a function, if there is one
+abbrev pub is_after : Option Symbol → Symbol → Bool
+is_after (Some function) label = nat_lt function.st_value label.st_value
+is_after None label = true
+
+-- the label before an address, if no function begins after it
+abbrev pub label_at : Symbols → ℕ → Option Symbol
+label_at symbols svma =
+    option_and_then (λ label. if is_after (nearest_of symbols.table svma) label then Some label else None)
+    (symbol_for symbols.labels svma)
+
+-- the symbol of the function that has an address, or else of the label before it
+abbrev pub symbol_at : Symbols → ℕ → Option Symbol
+symbol_at symbols svma = or_else (symbol_for symbols.table svma) (label_at symbols svma)
+
 -- a function with how far the address is in it
 abbrev pub option_named : Symbols → ℕ → Option Symbol → Option (List ℕ × ℕ)
 option_named symbols svma (Some symbol) = Some (named_from symbols svma symbol)
@@ -46,7 +61,7 @@ option_named symbols svma None = None
 abbrev pub function_at : List Symbols → ℕ → Option (List ℕ × ℕ)
 function_at [] svma = None
 function_at (symbols ∷ others) svma =
-    or_else (option_named symbols svma (symbol_for symbols.table svma)) (function_at others svma)
+    or_else (option_named symbols svma (symbol_at symbols svma)) (function_at others svma)
 
 -- a mapping has an address (AVMA)
 abbrev pub has_address : ℕ → Mapping → Bool

@@ -2,7 +2,7 @@
 ghost use Rattle.std.specs.Prelude.{◌≡◌, IfOk, map, option_map};
 ghost use Rattle.framehop_processes.specs.Mappings.{IsInOrder};
 ghost use Rattle.framehop_symbols.specs.ObjectFiles.{segment_view, code_view, code_of};
-ghost use Rattle.framehop_symbols.specs.Code.{extended, extent_of, segment_in, has_svma, code_from, code_in_mapping, code_at, is_mapped};
+ghost use Rattle.framehop_symbols.specs.Code.{segment_code, has_svma, code_from, code_in_mapping, code_at, is_mapped, entry_in_mapping, is_at_entry};
 
 use crate::files::Files;
 use crate::place::{mapping_asked_for, mapping_at};
@@ -11,11 +11,10 @@ use framehop_memory::segment::Segment;
 use framehop_processes::Mapping;
 use std::alloc::{AllocError, Global};
 
-/// The code of a file. The bytes of its segments are kept once, also where segments share them.
+/// The code of a file. Its bytes are kept once, also where segments share them.
 #[derive(Drop)]
 pub struct FileCode {
-    /// The part of the file that has the bytes of all segments that may be executed.
-    bytes: Vec<u8>,
+    file: Vec<u8>,
     segments: Vec<SegmentCode>,
 }
 
@@ -24,17 +23,10 @@ pub struct FileCode {
 struct SegmentCode {
     /// The first address of the segment, as the file states it (SVMA).
     start: u64,
-    /// Where its bytes begin among those that are kept.
+    /// Where its bytes begin in the file.
     offset: u64,
     /// How many bytes of it are in the file: none where it may not be executed.
     size: u64,
-}
-
-/// A part of a file: the offset at which it begins, and the one at which it ends.
-#[derive(Clone, Copy, Drop)]
-struct Extent {
-    start: u64,
-    end: u64,
 }
 
 /// Returns the code of a process from an address (AVMA) on, as far as a segment of the mapped file has it, by mappings
@@ -45,6 +37,31 @@ pub fn code_at<'a>(files: &'a Files<'_>, mappings: &[Mapping], address: u64) -> 
 {
     let mapping = mapping_asked_for(files, mappings, address)?;
     code_in_mapping(files, mapping, address)
+}
+
+/// Returns whether a process begins a few instructions before an address (AVMA), in the first code of a mapped file, by mappings
+/// in order: the address is in the 64 bytes from the file's entry point on.
+pub fn is_at_entry(files: &Files<'_>, mappings: &[Mapping], address: u64) -> bool
+    requires { IsInOrder 0 mappings.now }
+    ensures { result ≡ is_at_entry files.now mappings.now address }
+{
+    match mapping_asked_for(files, mappings, address) {
+        Some(mapping) => is_at_entry_of(files, mapping, address),
+        None => false,
+    }
+}
+
+/// Returns the same of an address (AVMA) of a mapping.
+fn is_at_entry_of(files: &Files<'_>, mapping: Mapping, address: u64) -> bool
+    ensures { result ≡ entry_in_mapping files.now address mapping }
+{
+    if !mapping.has_sections {
+        return false;
+    }
+    match files.object(mapping.file) {
+        Some(object) => object.is_at_entry(address.saturating_sub(mapping.base_avma)),
+        None => false,
+    }
 }
 
 /// Returns whether an address (AVMA) is in one of mappings in order.
@@ -66,72 +83,43 @@ fn code_in_mapping<'a>(files: &'a Files<'_>, mapping: Mapping, address: u64) -> 
     object.code_from(address.saturating_sub(mapping.base_avma))
 }
 
-/// Returns the code of a file by its segments.
+/// Returns the code of a file by its segments. The file's bytes are kept.
 pub(crate) fn code_of(
     alloc: Global,
-    file: &[u8],
+    file: Vec<u8>,
     segments: &[Segment],
 ) -> Result<FileCode, AllocError>
-    ensures { IfOk result (λ code. code_view code ≡ code_of file.now segments.now) }
+    ensures { IfOk result (λ code. code_view code ≡ code_of file.items segments.now) }
 {
-    let extent = extent_of(segments);
-    let size = extent.end.saturating_sub(extent.start);
-    let kept = front(back(file, extent.start), size as usize);
-    Ok(FileCode {
-        bytes: Vec::from_slice(alloc, kept)?,
-        segments: segments_in(alloc, segments, extent)?,
-    })
+    let segments = segments_in(alloc, segments)?;
+    Ok(FileCode { file, segments })
 }
 
-/// Returns the part of a file from the least offset to the greatest end of the segments that may be executed.
-fn extent_of(segments: &[Segment]) -> Extent
-    ensures { result ≡ extent_of segments.now }
-{
-    let mut extent = Extent {
-        start: u64::MAX,
-        end: 0,
-    };
-    for segment in segments {
-        extent = extended(extent, *segment);
-    }
-    extent
-}
-
-/// Returns a part of a file that has the bytes of a segment, too, if it may be executed.
-fn extended(extent: Extent, segment: Segment) -> Extent
-    ensures { result ≡ extended extent segment }
-{
-    if !segment.is_code {
-        return extent;
-    }
-    let end = segment.offset.saturating_add(segment.file_size);
-    Extent {
-        start: extent.start.min(segment.offset),
-        end: extent.end.max(end),
-    }
-}
-
-/// Returns where the bytes of segments are in a part of their file.
-fn segments_in(
-    alloc: Global,
-    segments: &[Segment],
-    extent: Extent,
-) -> Result<Vec<SegmentCode>, AllocError>
-    ensures { IfOk result (λ code. code.items ≡ map (segment_in extent) segments.now) }
+/// Returns where the bytes of segments are in their file.
+fn segments_in(alloc: Global, segments: &[Segment]) -> Result<Vec<SegmentCode>, AllocError>
+    ensures { IfOk result (λ code. code.items ≡ map segment_code segments.now) }
 {
     segments
         .iter()
-        .map(|segment| segment_in(extent, *segment))
+        .map(|segment| segment_code(*segment))
         .collect(alloc)
 }
 
-/// Returns where the bytes of a segment are in a part of its file.
-fn segment_in(extent: Extent, segment: Segment) -> SegmentCode
-    ensures { result ≡ segment_in extent segment }
+/// Returns no code.
+pub(crate) fn no_code(alloc: Global) -> FileCode {
+    FileCode {
+        file: Vec::new(alloc),
+        segments: Vec::new(alloc),
+    }
+}
+
+/// Returns where the bytes of a segment are in its file.
+fn segment_code(segment: Segment) -> SegmentCode
+    ensures { result ≡ segment_code segment }
 {
     SegmentCode {
         start: segment.address,
-        offset: segment.offset.saturating_sub(extent.start),
+        offset: segment.offset,
         size: if segment.is_code {
             segment.file_size
         } else {
@@ -145,7 +133,7 @@ pub(crate) fn code_from(code: &FileCode, svma: u64) -> Option<&[u8]>
     ensures { option_map (λ code. code.now) result ≡ code_from (code_view code.entry.now) svma }
 {
     for segment in &code.segments {
-        let bytes = bytes_in(code.bytes.as_slice(), *segment);
+        let bytes = bytes_in(code.file.as_slice(), *segment);
         if has_svma(*segment, bytes, svma) {
             return Some(back(bytes, svma - segment.start));
         }
@@ -153,11 +141,11 @@ pub(crate) fn code_from(code: &FileCode, svma: u64) -> Option<&[u8]>
     None
 }
 
-/// Returns the bytes of a segment among those that are kept.
-fn bytes_in(kept: &[u8], segment: SegmentCode) -> &[u8]
-    ensures { result.now ≡ (segment_view kept.entry.now segment).bytes }
+/// Returns the bytes of a segment in its file.
+fn bytes_in(file: &[u8], segment: SegmentCode) -> &[u8]
+    ensures { result.now ≡ (segment_view file.entry.now segment).bytes }
 {
-    front(back(kept, segment.offset), segment.size as usize)
+    front(back(file, segment.offset), segment.size as usize)
 }
 
 /// Returns whether the code of a segment, which has these bytes, has an address (SVMA).

@@ -4,18 +4,20 @@ ghost use Rattle.framehop.specs.Modules.{ModuleView};
 ghost use Rattle.framehop_elf.specs.UnwindSections.{bytes_in};
 ghost use Rattle.framehop_elf.specs.declared.error.ElfError.{ElfError};
 ghost use Rattle.framehop_symbols.specs.ObjectFiles.{Listed, problem_of, IsOutOfMemory, IsKeptOf};
-ghost use Rattle.framehop_symbols.specs.Files.{number_in, object_in, module_at, placed_at, is_unix_path, has_drive, is_windows_path, is_path, is_vdso, is_read, is_deleted, path_of, is_asked, told_of, IsGiven, IsNamed, IsRefused, IsCopied, IsNotCopied, IsKept, AreDebugTables, IsFileOf, IsNextFile, IsNext, IsNextMap, IsAdded, IsMapAdded, IsWithoutFiles, IsLeftOut, IsNextLeftOut, IsAddedLeftOut, IsRead, file_called, is_left_out, map_number_in};
+ghost use Rattle.framehop_symbols.specs.Files.{number_in, object_in, module_at, placed_at, is_unix_path, has_drive, is_windows_path, is_path, is_vdso, is_read, is_deleted, path_of, is_asked, told_of, given_bytes, IsGiven, IsNamed, IsRefused, IsCopied, IsNotCopied, IsKept, AreDebugTables, IsFileOf, IsNextFile, IsNext, IsNextMap, IsAdded, IsMapAdded, IsWithoutFiles, IsLeftOut, IsNextLeftOut, IsAddedLeftOut, IsRead, file_called, is_left_out, map_number_in};
 ghost use Rattle.framehop_symbols.specs.Source.{SourceView};
 ghost use Rattle.framehop_symbols.specs.declared.object_file.FileProblem.{FileProblem};
 
 use crate::code_map::CodeMap;
 use crate::mapped_bytes::MappedBytes;
 use crate::object_file::{FileProblem, ObjectFile, bare_module};
+use crate::read_refusal::ReadRefusal;
 use framehop::Module;
 use framehop::aarch64::UnwinderAarch64;
 use framehop::cache::AllocationPolicy;
 use framehop::section::SectionBytes;
 use framehop::x86_64::UnwinderX86_64;
+use framehop_code::x86_64::kept::KeptInstructions;
 use framehop_processes::{Mapping, ModuleMaker, ProcessUnwinder};
 use std::alloc::{AllocError, Global};
 use std::cell::Cell;
@@ -29,14 +31,18 @@ pub trait FileSource {
     // what it can give
     ghost source: { Self → SourceView };
 
-    /// Returns the bytes of a file by its name, a path or `[vdso]`, if it is there and can be read. Where several files
-    /// stand for the name, that with the wanted build id is returned, if there is one.
+    /// Returns the bytes of a file by its name, a path or `[vdso]`, or why it does not. Where several files stand for the
+    /// name, that with the wanted build id is returned, if there is one.
     ///
     /// # Errors
     ///
     /// An allocation failed.
-    fn read_file(&self, name: &[u8], build_id: &[u8]) -> Result<Option<Vec<u8>>, AllocError>
-        ensures { IfOk result (λ given. (source self.now).gives name.now build_id.now (bytes_in given)) };
+    fn read_file(
+        &self,
+        name: &[u8],
+        build_id: &[u8],
+    ) -> Result<Result<Vec<u8>, ReadRefusal>, AllocError>
+        ensures { IfOk result (λ given. (source self.now).gives name.now build_id.now (given_bytes given)) };
 
     /// Returns the bytes of the file of a build id of which a profiler has a copy, if there is one and it can be read.
     ///
@@ -103,6 +109,8 @@ pub struct Files<'m> {
     /// The numbers of maps of code that is in no file, by their processes.
     maps: BTreeMap<u32, u32>,
     bare: Module<MappedBytes<'m>>,
+    /// Instructions of any code that was run.
+    instructions: KeptInstructions,
 }
 
 impl<'m> Files<'m> {
@@ -115,6 +123,7 @@ impl<'m> Files<'m> {
             numbers: BTreeMap::new(alloc),
             maps: BTreeMap::new(alloc),
             bare: bare_module(alloc)?,
+            instructions: KeptInstructions::new(alloc)?,
         })
     }
 
@@ -283,6 +292,11 @@ impl<'m> Files<'m> {
         self.list.as_slice()
     }
 
+    /// Returns the instructions that are kept of code that was run.
+    pub fn instructions(&self) -> &KeptInstructions {
+        &self.instructions
+    }
+
     /// Returns what was read of the file of a number.
     pub fn object(&self, number: u32) -> Option<&ObjectFile<'m>>
         ensures { option_copied result ≡ object_in self.now number }
@@ -427,13 +441,13 @@ fn read_named<'m, S: FileSource>(
         ⊎ IsRefused (S.source source.now) name.now build_id.now problem) }
 {
     match given_by(source, name, build_id)? {
-        Some(bytes) => ObjectFile::new(alloc, bytes.as_slice(), build_id),
-        None => Err(FileProblem::NotRead),
+        Ok(bytes) => ObjectFile::new(alloc, bytes, build_id),
+        Err(refusal) => Err(FileProblem::NotRead(refusal)),
     }
 }
 
-/// Returns the bytes of the file of a name, if the source is asked for it and gives it: by its path without the mark of a
-/// file that was deleted, which is read only where a build id is wanted of it.
+/// Returns the bytes of the file of a name, or why there are none: by its path without the mark of a file that was deleted,
+/// which is read only where a build id is wanted of it.
 ///
 /// # Errors
 ///
@@ -444,13 +458,13 @@ pub(crate) fn given_by<S: FileSource>(
     source: &S,
     name: &[u8],
     build_id: &[u8],
-) -> Result<Option<Vec<u8>>, AllocError>
-    ensures { IfOk result (λ given. IsGiven (S.source source.now) name.now build_id.now (bytes_in given)) }
+) -> Result<Result<Vec<u8>, ReadRefusal>, AllocError>
+    ensures { IfOk result (λ given. IsGiven (S.source source.now) name.now build_id.now (given_bytes given)) }
 {
     if is_asked(name, build_id) {
         source.read_file(path_of(name), build_id)
     } else {
-        Ok(None)
+        Ok(Err(ReadRefusal::Deleted))
     }
 }
 
@@ -496,7 +510,7 @@ fn read_copied<'m, S: FileSource>(
     let Some(bytes) = source.read_copied_file(build_id)? else {
         return Ok(None);
     };
-    match ObjectFile::new(alloc, bytes.as_slice(), build_id) {
+    match ObjectFile::new(alloc, bytes, build_id) {
         Ok(object) => Ok(Some(object)),
         Err(problem) => {
             if problem.is_out_of_memory() {
@@ -537,7 +551,7 @@ fn told_of(is_path: bool, problem: FileProblem) -> Option<FileProblem>
     ensures { result ≡ told_of is_path problem }
 {
     match problem {
-        FileProblem::NotRead if !is_path => None,
+        FileProblem::NotRead(_) if !is_path => None,
         problem => Some(problem),
     }
 }

@@ -6,9 +6,10 @@
 //! - One maker of modules serves all unwinders over the bytes of mapped files (`FileUnwinder`). The
 //!   index of a file is made once: its module lies at no address, and the modules of its mappings
 //!   share its unwind data.
-//! - A section is kept or lent (`MappedBytes`): a file that was read owns copies, so that its bytes
-//!   are let go; what a dump's memory has is lent, since many mappings may share it. Code is kept
-//!   once, and a segment is a range of it (`FileCode`).
+//! - A section is kept or lent (`MappedBytes`): a file that was read owns copies; what a dump's
+//!   memory has is lent, since many mappings may share it. Code is most of a large file, so the
+//!   file's bytes are kept for it, and a segment is a range of them (`FileCode`).
+//! - A label in code names what no function's symbol reaches, up to the next function.
 //! - A function without a name is called by its start, as the FDE says it. An export of a PE file
 //!   ends with its function in `.pdata`, since exports have no sizes.
 //! - Of symbols at one address those with a version and those that begin with `__GI_` are least
@@ -30,3 +31,4 @@ pub mod object_file;
 mod pe_file;
 pub mod place;
 mod plainness;
+pub mod read_refusal;

@@ -1,27 +1,27 @@
 //! A file that processes map, an ELF file or a PE file: where it is loaded, its unwind data and its symbols.
 //!
-//! The sections and the code are copied and the file's bytes are let go, since a run has many files. The module lies at
-//! no address: the modules of all mappings of the file share its unwind data.
+//! The sections are copied, and the file's bytes are kept for its code, which is most of a large file. The module lies at no
+//! address: the modules of all mappings of the file share its unwind data.
 ghost use Rattle.std.specs.Prelude.{◌≡◌, ◌⊎◌, ◌↔◌, IsTrue, ℕ, List, [], ◌++◌, Some, None, Ok, Err, IfOk, IfErr, OnOk, MatchResult, option_map, option_to_list};
-ghost use Rattle.framehop_elf.specs.Symbol.{symbol_for};
 ghost use Rattle.std.specs.Result.{result_err};
 ghost use Rattle.framehop_elf.specs.UnwindSections.{bytes_in, bytes_or_none};
 ghost use Rattle.framehop_elf.specs.declared.error.ElfError.{ElfError};
 ghost use Rattle.framehop_memory.specs.Segment.{base_of};
-ghost use Rattle.framehop_symbols.specs.ObjectFiles.{Contents, Listed, headers_view, headers_of, build_id_in, build_id_by, debug_link_in, frames_in, contents_of, is_another, is_another_file, problem_by, problem_of, symbols_in, symbols_called, tables_of, debug_tables_of, IsTable, AreTables, module_of, module_with, module_in, debug_frame_with, debug_frame_in, bare_module, export_tables_of, elf_contents_of, pe_contents_of, IsOutOfMemory, IsKeptBy, IsKeptOf};
+ghost use Rattle.framehop_symbols.specs.ObjectFiles.{Contents, Listed, headers_view, headers_of, build_id_in, build_id_by, debug_link_in, frames_in, contents_of, is_another, is_another_file, problem_by, problem_of, is_at_entry, symbols_in, symbols_called, listed, listed_of, tables_of, debug_tables_of, IsTable, AreTables, module_of, module_with, module_in, debug_frame_with, debug_frame_in, bare_module, export_tables_of, elf_contents_of, pe_contents_of, IsOutOfMemory, IsKeptWith, IsKeptOf};
 ghost use Rattle.framehop_symbols.specs.Code.{code_of_object};
 ghost use Rattle.framehop_symbols.specs.MappedBytes.{mapped_sections_view};
 ghost use Rattle.framehop_symbols.specs.Found.{has_names, is_unwind_data};
-ghost use Rattle.framehop_symbols.specs.Place.{option_named, function_at, unnamed_start};
+ghost use Rattle.framehop_symbols.specs.Place.{option_named, label_at, symbol_at, function_at, unnamed_start};
 ghost use Rattle.framehop_symbols.specs.declared.object_file.FileProblem.{FileProblem};
 
-use crate::code::{FileCode, code_from, code_of};
+use crate::code::{FileCode, code_from, code_of, no_code};
 use crate::exports::exported_functions;
 use crate::function_start::function_start;
 use crate::made_up_id::is_made_up;
 use crate::mapped_bytes::{MappedBytes, kept_sections};
 use crate::pe_file;
 use crate::plainness::by_plainness;
+use crate::read_refusal::ReadRefusal;
 use framehop::Module;
 use framehop::section::ExplicitModuleSectionInfo;
 use framehop::unwind_data::ModuleUnwindDataInternal;
@@ -34,7 +34,9 @@ use framehop_elf::program_header::{ProgramHeader, read_program_headers};
 use framehop_elf::section::{read_contents, read_section_names, section_by_name};
 use framehop_elf::section_header::{SectionHeader, read_section_headers};
 use framehop_elf::segment::loaded_segments;
-use framehop_elf::symbol::{Symbol, SymbolTable, read_function_symbols, read_symbol_names};
+use framehop_elf::symbol::{
+    Symbol, SymbolTable, read_function_symbols, read_labels, read_symbol_names,
+};
 use framehop_elf::unwind_sections::{
     debug_frame_sections, has_eh_frame, read_debug_frame, unwind_sections_with,
 };
@@ -46,10 +48,15 @@ use framehop_pe_file::section_header::SectionHeader as PeSectionHeader;
 use std::alloc::{AllocError, Global};
 use thiserror::Error;
 
-/// The functions of a symbol table, and the string table that has their names.
+/// The size of the code from the entry point of a file on in which a process begins, in bytes: a call of it, or a jump, leads
+/// away.
+const ENTRY_SIZE: u64 = 64;
+
+/// The functions and the labels of a symbol table, and the string table that has their names.
 #[derive(Drop)]
 struct Symbols {
     table: SymbolTable,
+    labels: SymbolTable,
     names: Vec<u8>,
 }
 
@@ -58,11 +65,32 @@ impl Symbols {
     /// start.
     fn function_at(&self, svma: u64) -> Option<(&[u8], u64)>
         ensures { option_map (λ found. (found.0.now, found.1)) result
-            ≡ option_named self.now svma (symbol_for self.now.table svma) }
+            ≡ option_named self.now svma (symbol_at self.now svma) }
     {
-        let symbol = self.table.symbol_for(svma)?;
+        let symbol = self.symbol_at(svma)?;
         let name = string_at(self.names.as_slice(), symbol.st_name);
         Some((name, svma.saturating_sub(symbol.st_value)))
+    }
+
+    /// Returns the symbol of the function that has an address (SVMA), or else of the label before it.
+    fn symbol_at(&self, svma: u64) -> Option<Symbol>
+        ensures { result ≡ symbol_at self.now svma }
+    {
+        match self.table.symbol_for(svma) {
+            Some(symbol) => Some(symbol),
+            None => self.label_at(svma),
+        }
+    }
+
+    /// Returns the label before an address (SVMA), if no function begins after it.
+    fn label_at(&self, svma: u64) -> Option<Symbol>
+        ensures { result ≡ label_at self.now svma }
+    {
+        let label = self.labels.symbol_for(svma)?;
+        match self.table.nearest(svma) {
+            Some(function) if label.st_value <= function.st_value => None,
+            _ => Some(label),
+        }
     }
 }
 
@@ -71,6 +99,8 @@ impl Symbols {
 #[derive(Drop)]
 pub struct ObjectFile<'m> {
     segments: Vec<Segment>,
+    /// Where a process begins in it (SVMA), or 0.
+    entry: u64,
     /// The code of each segment.
     code: FileCode,
     symbols: Vec<Symbols>,
@@ -89,9 +119,9 @@ pub struct ObjectFile<'m> {
 /// Why a file gives no unwind data and no names.
 #[derive(Clone, Copy, Debug, PartialEq, Eq, Error)]
 pub enum FileProblem {
-    /// It is not there, is no regular file, or can't be read.
-    #[error("can't be read")]
-    NotRead,
+    /// It is not given.
+    #[error("not read")]
+    NotRead(ReadRefusal),
     /// It is no ELF file that can be read.
     #[error("{0}")]
     Elf(ElfError),
@@ -152,16 +182,15 @@ impl<'m> ObjectFile<'m> {
     ///
     /// `OtherBuildId`, and the refusals of the file's headers and of its section names; `OutOfMemory`. A section
     /// that can't be read counts as absent.
-    pub fn new(alloc: Global, bytes: &[u8], wanted: &[u8]) -> Result<Self, FileProblem>
-        ensures kept { IfOk result (λ object. IsKeptOf bytes.now [] object) }
-        ensures wanted { IfOk result (λ _. problem_of bytes.now wanted.now ≡ None) }
+    pub fn new(alloc: Global, bytes: Vec<u8>, wanted: &[u8]) -> Result<Self, FileProblem>
+        ensures kept { IfOk result (λ object. IsKeptOf bytes.items [] object) }
+        ensures wanted { IfOk result (λ _. problem_of bytes.items wanted.now ≡ None) }
         ensures refused { IfErr result (λ problem. IsOutOfMemory problem
-            ⊎ (problem_of bytes.now wanted.now ≡ Some problem)) }
+            ⊎ (problem_of bytes.items wanted.now ≡ Some problem)) }
     {
-        if pe_file::is_pe(bytes) {
-            return read_pe(alloc, bytes, wanted);
-        }
-        read_elf(alloc, bytes, wanted)
+        let mut object = read_parts(alloc, bytes.as_slice(), wanted)?;
+        object.code = code_of(alloc, bytes, object.segments.as_slice())?;
+        Ok(object)
     }
 
     /// Takes the functions of the file's debug file, which are asked before its own: nothing where it can't be
@@ -214,6 +243,14 @@ impl<'m> ObjectFile<'m> {
         ensures { result.now ≡ self.now.segments.items }
     {
         self.segments.as_slice()
+    }
+
+    /// Returns whether a process begins in the file a few instructions before an address (SVMA): the address is in the 64
+    /// bytes from the file's entry point on.
+    pub(crate) fn is_at_entry(&self, svma: u64) -> bool
+        ensures { result ≡ is_at_entry self.now.entry svma }
+    {
+        self.entry != 0 && self.entry <= svma && svma - self.entry < ENTRY_SIZE
     }
 
     /// Returns whether the file or its debug file has the name of a function.
@@ -286,10 +323,25 @@ impl<'m> ObjectFile<'m> {
     }
 }
 
-/// Reads a PE file. Where the GUID and the age of a program database are wanted, the file's must be the same.
+/// Reads an ELF file or a PE file, without its code.
+fn read_parts<'m>(alloc: Global, bytes: &[u8], wanted: &[u8]) -> Result<ObjectFile<'m>, FileProblem>
+    ensures kept { IfOk result (λ object. (contents : Contents) × (contents_of bytes.now ≡ Ok contents)
+        × IsKeptWith bytes.now contents [] object) }
+    ensures wanted { IfOk result (λ _. problem_of bytes.now wanted.now ≡ None) }
+    ensures refused { IfErr result (λ problem. IsOutOfMemory problem
+        ⊎ (problem_of bytes.now wanted.now ≡ Some problem)) }
+{
+    if pe_file::is_pe(bytes) {
+        return read_pe(alloc, bytes, wanted);
+    }
+    read_elf(alloc, bytes, wanted)
+}
+
+/// Reads a PE file, without its code. Where the GUID and the age of a program database are wanted, the file's must be the
+/// same.
 fn read_pe<'m>(alloc: Global, bytes: &[u8], wanted: &[u8]) -> Result<ObjectFile<'m>, FileProblem>
     ensures kept { IfOk result (λ object. (contents : Contents) × (pe_contents_of bytes.now ≡ Ok contents)
-        × IsKeptBy contents [] object) }
+        × IsKeptWith bytes.now contents [] object) }
     ensures wanted { IfOk result (λ _. problem_by bytes.now wanted.now (pe_contents_of bytes.now) ≡ None) }
     ensures refused { IfErr result (λ problem. IsOutOfMemory problem
         ⊎ (problem_by bytes.now wanted.now (pe_contents_of bytes.now) ≡ Some problem)) }
@@ -301,12 +353,12 @@ fn read_pe<'m>(alloc: Global, bytes: &[u8], wanted: &[u8]) -> Result<ObjectFile<
     }
     let module = pe_file::module_in(alloc, bytes, header, sections.as_slice())?;
     let segments = pe_file::segments_of(alloc, sections.as_slice())?;
-    let code = code_of(alloc, bytes, segments.as_slice())?;
     let symbols = read_exports(alloc, bytes, header, sections.as_slice())?;
     let build_id = Vec::from_slice(alloc, identity)?;
     Ok(ObjectFile {
         segments,
-        code,
+        entry: 0,
+        code: no_code(alloc),
         symbols,
         module,
         debug_frame: bare_module(alloc)?,
@@ -332,7 +384,7 @@ fn read_exports(
     };
     let pdata = pe_file::pdata_in(file, header, sections);
     let functions = exported_functions(alloc, header, directory, pdata)?;
-    all.push(kept_symbols(alloc, functions, directory)?)?;
+    all.push(kept_symbols(alloc, functions, Vec::new(alloc), directory)?)?;
     Ok(all)
 }
 
@@ -344,10 +396,10 @@ pub(crate) fn bare_module<'m>(alloc: Global) -> Result<Module<MappedBytes<'m>>, 
     module_of(alloc, info)
 }
 
-/// Reads an ELF file. Where a build id is wanted, the file's must be the same.
+/// Reads an ELF file, without its code. Where a build id is wanted, the file's must be the same.
 fn read_elf<'m>(alloc: Global, bytes: &[u8], wanted: &[u8]) -> Result<ObjectFile<'m>, FileProblem>
     ensures kept { IfOk result (λ object. (contents : Contents) × (elf_contents_of bytes.now ≡ Ok contents)
-        × IsKeptBy contents [] object) }
+        × IsKeptWith bytes.now contents [] object) }
     ensures wanted { IfOk result (λ _. problem_by bytes.now wanted.now (elf_contents_of bytes.now) ≡ None) }
     ensures refused { IfErr result (λ problem. IsOutOfMemory problem
         ⊎ (problem_by bytes.now wanted.now (elf_contents_of bytes.now) ≡ Some problem)) }
@@ -358,7 +410,6 @@ fn read_elf<'m>(alloc: Global, bytes: &[u8], wanted: &[u8]) -> Result<ObjectFile
         return Err(FileProblem::OtherBuildId);
     }
     let segments = loaded_segments(alloc, headers.segments.as_slice())?;
-    let code = code_of(alloc, bytes, segments.as_slice())?;
     let symbols = read_all_symbols(alloc, bytes, &headers)?;
     let frames = read_frames(alloc, bytes, &headers)?;
     let frames_problem = frames.problem;
@@ -367,7 +418,8 @@ fn read_elf<'m>(alloc: Global, bytes: &[u8], wanted: &[u8]) -> Result<ObjectFile
     let debug_link = Vec::from_slice(alloc, debug_link_in(bytes, &headers))?;
     Ok(ObjectFile {
         segments,
-        code,
+        entry: headers.entry,
+        code: no_code(alloc),
         symbols,
         module,
         debug_frame,
@@ -526,6 +578,8 @@ fn read_debug_symbols(
 /// The segments and the sections of a file.
 #[derive(Drop)]
 struct Headers<'a> {
+    /// Where a process begins in it (SVMA), or 0.
+    entry: u64,
     segments: Vec<ProgramHeader>,
     sections: Vec<SectionHeader>,
     /// The string table that has the names of the sections.
@@ -544,6 +598,7 @@ fn read_headers<'a>(alloc: Global, file: &'a [u8]) -> Result<Headers<'a>, ElfErr
     let sections = read_section_headers(alloc, file, header)?;
     let names = read_section_names(file, header, sections.as_slice())?;
     Ok(Headers {
+        entry: header.e_entry,
         segments,
         sections,
         names,
@@ -638,9 +693,9 @@ fn read_symbols(
     let Ok(names) = read_symbol_names(file, sections, section) else {
         return Ok(None);
     };
-    match read_function_symbols(alloc, file, sections, section) {
-        Ok(functions) => {
-            let symbols = kept_symbols(alloc, functions, names)?;
+    match read_listed(alloc, file, sections, section, names) {
+        Ok((functions, labels)) => {
+            let symbols = kept_symbols(alloc, functions, labels, names)?;
             Ok(Some(symbols))
         }
         Err(ElfError::OutOfMemory) => Err(ElfError::OutOfMemory),
@@ -648,13 +703,41 @@ fn read_symbols(
     }
 }
 
-/// Keeps the functions of a symbol table with the strings that have their names.
-fn kept_symbols(alloc: Global, functions: Vec<Symbol>, names: &[u8]) -> Result<Symbols, ElfError>
-    ensures kept { IfOk result (λ symbols. IsTable (functions.items, names.now) symbols) }
+/// Reads the functions and the labels of a symbol table, by the string table that has their names.
+#[tactic(auto, unfolding(crate::specs::ObjectFiles::listed_of))]
+fn read_listed(
+    alloc: Global,
+    file: &[u8],
+    sections: &[SectionHeader],
+    table: SectionHeader,
+    names: &[u8],
+) -> Result<(Vec<Symbol>, Vec<Symbol>), ElfError>
+    ensures { MatchResult result
+        (λ read. listed_of file.now sections.now table names.now ≡ Ok (listed read.0.items read.1.items names.now))
+        (λ error. (error ≡ ElfError.OutOfMemory) ⊎ (listed_of file.now sections.now table names.now ≡ Err error)) }
+{
+    let functions = read_function_symbols(alloc, file, sections, table)?;
+    let labels = read_labels(alloc, file, sections, table, names)?;
+    Ok((functions, labels))
+}
+
+/// Keeps the functions and the labels of a symbol table with the strings that have their names.
+fn kept_symbols(
+    alloc: Global,
+    functions: Vec<Symbol>,
+    labels: Vec<Symbol>,
+    names: &[u8],
+) -> Result<Symbols, ElfError>
+    ensures kept { IfOk result (λ symbols. IsTable (listed functions.items labels.items names.now) symbols) }
     ensures refused { IfErr result (λ error. error ≡ ElfError.OutOfMemory) }
 {
     let ordered = by_plainness(alloc, functions.as_slice(), names)?;
     let table = SymbolTable::new(ordered)?;
+    let labels = SymbolTable::new(labels)?;
     let names = Vec::from_slice(alloc, names)?;
-    Ok(Symbols { table, names })
+    Ok(Symbols {
+        table,
+        labels,
+        names,
+    })
 }

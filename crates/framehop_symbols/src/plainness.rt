@@ -16,7 +16,7 @@ pub(crate) fn by_plainness(
     functions: &[Symbol],
     names: &[u8],
 ) -> Result<Vec<Symbol>, AllocError>
-    ensures { IfOk result (λ ordered. ordered.items ≡ by_plainness (functions.now, names.now)) }
+    ensures { IfOk result (λ ordered. ordered.items ≡ by_plainness functions.now names.now) }
 {
     let mut plainest = Vec::new(alloc);
     let mut underscored = Vec::new(alloc);

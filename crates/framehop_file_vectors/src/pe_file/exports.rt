@@ -135,6 +135,6 @@ fn has_functions(object: &ObjectFile) -> bool {
 #[test]
 fn names_the_functions_that_a_library_exports(rt: HostRuntime) -> Result<(), Fail> {
     let file = hex::decode(rt.alloc(), LIBRARY)?;
-    let object = ObjectFile::new(rt.alloc(), file.as_slice(), &[])?;
+    let object = ObjectFile::new(rt.alloc(), file, &[])?;
     holds(has_functions(&object))
 }

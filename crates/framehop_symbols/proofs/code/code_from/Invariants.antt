@@ -6,4 +6,4 @@ use Rattle.framehop_symbols.proofs.code.code_from.Given as goal
 
 abbrev pub invariant-loop-segment : goal.invariant-loop-segment
 invariant-loop-segment l = find (has_svma l.svma) (code_view l.code)
-    ≡ find (has_svma l.svma) (map (segment_view l.code.bytes.items) (drop l.segment-index l.code.segments.items))
+    ≡ find (has_svma l.svma) (map (segment_view l.code.file.items) (drop l.segment-index l.code.segments.items))

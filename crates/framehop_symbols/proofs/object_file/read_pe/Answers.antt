@@ -1,5 +1,5 @@
-use Rattle.std.proofs.Common.{rules, ◌≡◌, Ok, ap}
-use Rattle.framehop_symbols.specs.ObjectFiles.{pe_headers_of, pe_contents, pe_contents_by}
+use Rattle.std.proofs.Common.{rules, ◌≡◌, Ok, map, ap, ◌∙◌}
+use Rattle.framehop_symbols.specs.ObjectFiles.{segment_of, code_of, pe_headers_of, pe_contents, pe_contents_by}
 use Rattle.framehop_symbols.proofs.object_file.read_pe.Goals as goal
 
 pub returns-clause-kept : goal.returns-clause-kept
@@ -7,12 +7,14 @@ returns-clause-kept c =
     let file = c.args.bytes.now in
     let header = c.in_ok-header.header in
     let sections = c.in_ok-header.sections.items in
-    let read : pe_headers_of file ≡ Ok (header, sections) = search rules in (
+    let read : pe_headers_of file ≡ Ok (header, sections) = search rules in
+    let listed : c.in_ok-segments.segments.items ≡ map segment_of sections = search rules in (
       pe_contents file header sections,
       ap (pe_contents_by file) read,
-      record {
+      λ code same. record {
         segments = search rules;
-        code = search rules;
+        entry = search rules;
+        code = same ∙ ap (code_of file) listed;
         build_id = search rules;
         debug_link = search rules;
         frames_problem = search rules;
