@@ -1,6 +1,6 @@
 -- A backtrace: the frames of a stack, each with its registers and how it was found.
 use Rattle.std.specs.Prelude.{ℕ, zero, suc, Bool, true, false, ◌==◌, ◌&&◌, if◌then◌else◌, List, [], ◌∷◌, map, Option, Some, None, option_and_then, unwrap_or, Result, Ok, Err}
-use Rattle.framehop_core.specs.CodeAddress.{FrameLocation, address_of, at_instruction_pointer, at_return_address, is_first_frame, location_of}
+use Rattle.framehop_core.specs.CodeAddress.{FrameLocation, address_of, lookup_address, at_instruction_pointer, at_return_address, is_first_frame, location_of}
 use Rattle.framehop_core.specs.Memory.{Memory}
 use Rattle.framehop_core.specs.Outcome.{Outcome, answer_of, registers_after}
 use Rattle.framehop_core.specs.declared.error.Error.{Error}
@@ -15,7 +15,7 @@ use Rattle.framehop_runs.specs.Step.{Source as RunSource}
 use Rattle.framehop_runs.specs.declared.run.RunCaller.{RunCaller}
 use Rattle.framehop_backtrace.specs.Code.{Code, code_at, is_in_trampoline, is_in_code, is_outside_code}
 use Rattle.framehop_backtrace.specs.Columns.{column, columns_by, returned_to}
-use Rattle.framehop_backtrace.specs.Guess.{evidence_at, evidence_of, is_better, is_taken}
+use Rattle.framehop_backtrace.specs.Guess.{evidence_at, evidence_of, is_taken, prefers_frame_pointer}
 use Rattle.framehop_backtrace.specs.Machine.{Machine}
 use Rattle.framehop_backtrace.specs.Rows.{Finding, by_row, uncovered, no_row}
 use Rattle.framehop_backtrace.specs.declared.frame.BacktraceEnd.{BacktraceEnd}
@@ -120,6 +120,25 @@ by_row_of machine code memory covers frame section row =
     (record { bytes = section; words = frame.columns; memory = memory }) row
     (step_of machine.convention (record { bytes = section; words = frame.columns; memory = memory }) row)
 
+-- A frame pointer of 0 is a root where a process begins: code at an entry point has no caller.
+abbrev pub end_at_entry : Bool → BacktraceEnd → BacktraceEnd
+end_at_entry true FramePointerZero = Root
+end_at_entry false FramePointerZero = FramePointerZero
+end_at_entry entry Root = Root
+end_at_entry entry Limit = Limit
+end_at_entry entry SignalFrameUnread = SignalFrameUnread
+end_at_entry entry CfaUnknown = CfaUnknown
+end_at_entry entry ReturnAddressUnknown = ReturnAddressUnknown
+end_at_entry entry DidNotAdvance = DidNotAdvance
+end_at_entry entry RegistersUnknown = RegistersUnknown
+end_at_entry entry (Refused error) = Refused error
+end_at_entry entry NoCaller = NoCaller
+end_at_entry entry (NotCode address) = NotCode address
+
+abbrev pub at_entry : {Regs : Type 0} → Code → ℕ → Next Regs → Next Regs
+at_entry code address (Ok frame) = Ok frame
+at_entry code address (Err end) = Err (end_at_entry (code.is_entry address) end)
+
 -- the end of a stack that a step finds
 abbrev pub root_of : FoundBy → BacktraceEnd
 root_of FramePointer = FramePointerZero
@@ -171,6 +190,11 @@ abbrev pub stepped_by : {Regs : Type 0} → Machine Regs → Code → FoundBy �
 stepped_by machine code found frame outcome =
     stepped machine code found frame.columns (answer_of outcome) (registers_after frame.regs outcome)
 
+-- the function that has an address, if it is known where that begins, has set its frame pointer before it
+abbrev pub has_set_from : {Regs : Type 0} → Machine Regs → Code → ℕ → Option ℕ → Bool
+has_set_from machine code address (Some start) = machine.has_set code.bytes start address
+has_set_from machine code address None = false
+
 module _ {Regs : Type 0} (machine : Machine Regs) (code : Code) (frame : FrameView Regs) where
   -- by the library's step, which has this outcome, if the registers that it needs are known
   abbrev pub by_library : FoundBy → Outcome Regs → Next Regs
@@ -185,7 +209,9 @@ module _ {Regs : Type 0} (machine : Machine Regs) (code : Code) (frame : FrameVi
   -- pointer, if one of them may be after a call.
   abbrev pub guessed : Result (Option ℕ) Error → Regs → Outcome Regs → Next Regs
   guessed answer regs fallback =
-      if is_better (evidence_for (answer_of fallback)) (evidence_for answer)
+      if prefers_frame_pointer
+      (has_set_from machine code (address_of frame.location) (code.start_of (address_of frame.location)))
+      (evidence_for (answer_of fallback)) (evidence_for answer)
       then stepped_by machine code FramePointer frame fallback
       else (if is_taken (evidence_for answer) then stepped machine code Guess frame.columns answer regs
       else Err (end_without_caller machine frame.columns (answer_of fallback)))
@@ -300,13 +326,15 @@ module _ {Regs : Type 0} (stack : Stack Regs) (callee : Option (FrameView Regs))
       (by_run stack.machine stack.code frame (run_source stack.memory stack.code stack.covers))
       (by_row_of stack.machine stack.code stack.memory stack.covers frame section row)
   by_finding uncovered =
-      caller_or (by_run stack.machine stack.code frame (run_source stack.memory stack.code stack.covers))
+      at_entry stack.code (lookup_address frame.location)
+      (caller_or (by_run stack.machine stack.code frame (run_source stack.memory stack.code stack.covers))
       (by_start stack.machine stack.code frame (stack.step frame.location frame.regs stack.memory)
-      (stack.machine.fallback (is_first_frame frame.location) frame.regs stack.memory))
+      (stack.machine.fallback (is_first_frame frame.location) frame.regs stack.memory)))
   by_finding no_row =
-      without_row stack.machine stack.code frame (stack.is_by_info frame.location frame.regs stack.memory)
+      at_entry stack.code (lookup_address frame.location)
+      (without_row stack.machine stack.code frame (stack.is_by_info frame.location frame.regs stack.memory)
       (stack.step frame.location frame.regs stack.memory) (stack.machine.start frame.regs stack.memory)
-      (stack.machine.fallback (is_first_frame frame.location) frame.regs stack.memory)
+      (stack.machine.fallback (is_first_frame frame.location) frame.regs stack.memory))
 
   -- the caller of a frame, or the end
   unfoldable pub next_of : Next Regs

@@ -1,5 +1,6 @@
 -- Call instructions, by their bytes.
-use Rattle.std.specs.Prelude.{ℕ, ◌+◌, ◌-◌, ◌*◌, ◌^◌, ◌/◌, ◌%◌, nat_lt, Bool, false, ◌&&◌, ◌||◌, ◌==◌, List, length, slice_get, Option, Some, None, option_and_then, unwrap_or, if◌then◌else◌}
+use Rattle.std.specs.Prelude.{ℕ, ◌+◌, ◌-◌, ◌*◌, ◌^◌, ◌/◌, ◌%◌, nat_eq, nat_le, nat_lt, Bool, false, ◌&&◌, ◌||◌, ◌==◌, List, [], ◌∷◌, length, drop, slice_get, Option, Some, None, option_and_then, unwrap_or, if◌then◌else◌}
+use Rattle.std.specs.Cmp.Lexicographic.{pointwise}
 
 -- a byte of code
 abbrev pub byte_of : List ℕ → ℕ → ℕ
@@ -53,6 +54,36 @@ is_after_call_x86_64 bytes address =
 
 abbrev pub is_after_call_aarch64 : (ℕ → ℕ → Option (List ℕ)) → ℕ → Bool
 is_after_call_aarch64 bytes address = is_after is_call_aarch64 bytes address 4
+
+-- ---- where a function has set its frame pointer
+
+-- ENDBR64, with which a function may begin
+abbrev pub ENDBR64 : List ℕ
+ENDBR64 = 0xf3 ∷ 0x0f ∷ 0x1e ∷ 0xfa ∷ []
+
+-- PUSH of rbp, and MOV of rsp to rbp, in either form (the same manual, `PUSH` and `MOV`)
+abbrev pub sets_rbp : List ℕ → Bool
+sets_rbp code =
+    pointwise nat_eq code (0x55 ∷ 0x48 ∷ 0x89 ∷ 0xe5 ∷ []) || pointwise nat_eq code (0x55 ∷ 0x48 ∷ 0x8b ∷ 0xec ∷ [])
+
+-- so many bytes pass a test that are from an address on and before another
+abbrev pub passes_before : (List ℕ → Bool) → (ℕ → ℕ → Option (List ℕ)) → ℕ → ℕ → ℕ → Bool
+passes_before test bytes size start address = nat_le (start + size) address && passes test (bytes start size)
+
+-- A function from a start on has set rbp before an address: by its first two instructions, or the two after ENDBR64.
+abbrev pub has_set_x86_64 : (ℕ → ℕ → Option (List ℕ)) → ℕ → ℕ → Bool
+has_set_x86_64 bytes start address =
+    passes_before sets_rbp bytes 4 start address
+    || (passes (λ code. pointwise nat_eq code ENDBR64) (bytes start 4) && passes_before sets_rbp bytes 4 (start + 4) address)
+
+-- STP of x29 and x30 below sp, which it lowers, and MOV of sp to x29 (Arm Architecture Reference Manual, C6.2)
+abbrev pub sets_x29 : List ℕ → Bool
+sets_x29 code =
+    (byte_of code 0 == 0xfd) && (byte_of code 1 == 0x7b) && nat_le 0x80 (byte_of code 2) && (byte_of code 3 == 0xa9)
+    && pointwise nat_eq (drop 4 code) (0xfd ∷ 0x03 ∷ 0x00 ∷ 0x91 ∷ [])
+
+abbrev pub has_set_aarch64 : (ℕ → ℕ → Option (List ℕ)) → ℕ → ℕ → Bool
+has_set_aarch64 bytes start address = passes_before sets_x29 bytes 8 start address
 
 -- ---- where direct calls lead
 

@@ -3,13 +3,14 @@ use Rattle.std.specs.Prelude.{ℕ, zero, suc, ◌-◌, Bool, false, not, ◌&&�
 use Rattle.framehop_core.specs.CodeAddress.{FrameLocation, at_instruction_pointer, at_return_address}
 
 -- so many bytes at an address, if they are known; whether an address lies in executable memory; whether a trampoline, to
--- which the handlers of signals return, begins there; and where the function begins that has an address, if a symbol or
--- an FDE tells that
+-- which the handlers of signals return, begins there; where the function begins that has an address, if a symbol or an
+-- FDE tells that; and whether a process begins a few instructions before it
 pub record Code : Type 0 where
   pub bytes : ℕ → ℕ → Option (List ℕ)
   pub is_executable : ℕ → Bool
   pub is_trampoline : ℕ → Bool
   pub start_of : ℕ → Option ℕ
+  pub is_entry : ℕ → Bool
 
 -- A frame is in a trampoline: a handler returns to the first of its two instructions. An instruction pointer can also
 -- be after either, four and eight bytes on (aarch64) or seven and nine (x86_64).

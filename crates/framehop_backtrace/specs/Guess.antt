@@ -1,5 +1,5 @@
 -- A caller by guess: what tells that a word of a stack is the return address of a call.
-use Rattle.std.specs.Prelude.{ℕ, ◌==◌, Bool, nat_lt, if◌then◌else◌, Option, Some, None, Result, Ok, Err}
+use Rattle.std.specs.Prelude.{ℕ, ◌==◌, Bool, true, false, not, ◌&&◌, nat_lt, if◌then◌else◌, Option, Some, None, Result, Ok, Err}
 use Rattle.framehop_core.specs.declared.error.Error.{Error}
 use Rattle.framehop_backtrace.specs.Code.{Code, is_in_code, is_unread}
 use Rattle.framehop_backtrace.specs.Machine.{Machine}
@@ -20,6 +20,12 @@ is_better first second = nat_lt (rank_of second) (rank_of first)
 -- it is taken, unless there is better evidence for another address
 abbrev pub is_taken : Evidence → Bool
 is_taken evidence = is_better evidence NoCall
+
+-- The frame pointer's address is preferred to a guess where it has better evidence, or the same in a function that has set
+-- its frame pointer (`true`).
+abbrev pub prefers_frame_pointer : Bool → Evidence → Evidence → Bool
+prefers_frame_pointer true followed guess = is_taken followed && not (is_better guess followed)
+prefers_frame_pointer false followed guess = is_better followed guess
 
 -- a call, by where the function starts and by where the call leads, if these are known
 abbrev pub evidence_of_call : Option ℕ → Option ℕ → Evidence

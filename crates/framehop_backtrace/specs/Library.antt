@@ -3,7 +3,7 @@ use Rattle.std.specs.Prelude.{◌≡◌, ℕ, zero, suc, true, false, ⊤, ◌�
 use Rattle.framehop_core.specs.CodeAddress.{FrameLocation, address_of, at_instruction_pointer, at_return_address, is_first_frame}
 use Rattle.framehop_core.specs.Outcome.{Outcome, answered, root, refused}
 use Rattle.framehop.specs.Walk.{Walk, End, at_root, at_refusal, at_limit, walk_from}
-use Rattle.framehop_backtrace.specs.Code.{is_in_trampoline, is_in_code, is_outside_code}
+use Rattle.framehop_backtrace.specs.Code.{Code, is_in_trampoline, is_in_code, is_outside_code}
 use Rattle.framehop_backtrace.specs.Rows.{Finding, by_row, uncovered, no_row}
 use Rattle.framehop_backtrace.specs.Backtrace.{Stack, FrameView, Backtrace, run_source}
 use Rattle.framehop_backtrace.specs.declared.frame.BacktraceEnd.{BacktraceEnd}
@@ -42,16 +42,18 @@ abbrev pub IsPlainWalk : {Regs : Type 0} → Stack Regs → ℕ → FrameLocatio
 IsPlainWalk stack zero location regs = ⊤
 IsPlainWalk stack (suc n) location regs = IsPlain stack n location regs
 
--- a backtrace ends as a walk does: a step by a frame pointer of 0 has no caller, by whatever the library refuses it
-abbrev pub EndsAs : End → BacktraceEnd → Type 0
-EndsAs at_root end = (end ≡ Root) ⊎ (end ≡ FramePointerZero)
-EndsAs (at_refusal error) end = (end ≡ Refused error) ⊎ (end ≡ FramePointerZero)
-EndsAs at_limit end = end ≡ Limit
+-- A backtrace ends as a walk does: a step by a frame pointer of 0 has no caller, by whatever the library refuses it, and
+-- is a root where a process begins.
+abbrev pub EndsAs : Code → End → BacktraceEnd → Type 0
+EndsAs code at_root end = (end ≡ Root) ⊎ (end ≡ FramePointerZero)
+EndsAs code (at_refusal error) end =
+    (end ≡ Refused error) ⊎ ((end ≡ FramePointerZero) ⊎ (((address : ℕ) × (code.is_entry address ≡ true)) × (end ≡ Root)))
+EndsAs code at_limit end = end ≡ Limit
 
 -- the backtrace has the frames of the walk, and ends as that does
-pub record IsWalk {Regs : Type 0} (walk : Walk Regs) (backtrace : Backtrace Regs) : Type 0 where
+pub record IsWalk {Regs : Type 0} (code : Code) (walk : Walk Regs) (backtrace : Backtrace Regs) : Type 0 where
   pub frames : map (λ (frame : FrameView Regs). frame.location) backtrace.frames ≡ walk.frames
-  pub end : EndsAs walk.end backtrace.end
+  pub end : EndsAs code walk.end backtrace.end
 
 -- the library's walk from an instruction pointer on
 abbrev pub walk_of : {Regs : Type 0} → Stack Regs → ℕ → ℕ → Regs → Walk Regs
@@ -61,4 +63,4 @@ walk_of stack limit pc regs = walk_from (λ location before. stack.step location
 abbrev pub IsLibraryWalk : {Regs : Type 0} → Stack Regs → ℕ → FrameView Regs → Backtrace Regs → Type 0
 IsLibraryWalk stack limit first backtrace =
     (pc : ℕ) → first.location ≡ at_instruction_pointer pc → stack.machine.can_step first.columns ≡ true
-    → IsPlainWalk stack limit first.location first.regs → IsWalk (walk_of stack limit pc first.regs) backtrace
+    → IsPlainWalk stack limit first.location first.regs → IsWalk stack.code (walk_of stack limit pc first.regs) backtrace

@@ -22,7 +22,7 @@ use Rattle.framehop_runs.specs.Run.{caller_by_runs}
 use Rattle.framehop_runs.specs.Step.{Source as RunSource}
 use Rattle.framehop_runs.specs.declared.run.RunCaller.{RunCaller}
 use Rattle.framehop_signal.specs.Frame.{interrupted_x86_64}
-use Rattle.framehop_backtrace.specs.Call.{is_after_call_x86_64, is_after_call_aarch64, call_target_x86_64, call_target_aarch64}
+use Rattle.framehop_backtrace.specs.Call.{is_after_call_x86_64, is_after_call_aarch64, call_target_x86_64, call_target_aarch64, has_set_x86_64, has_set_aarch64}
 use Rattle.framehop_backtrace.specs.Columns.{columns_by, column, with_column}
 use Rattle.framehop_backtrace.specs.Restored.{with_restored, with_completed}
 
@@ -31,6 +31,7 @@ use Rattle.framehop_backtrace.specs.Restored.{with_restored, with_completed}
 -- `can_step`: whether the columns that each step of the library may need are known. `frame_size`, `saved`: how much of
 -- a signal frame is read, and the interrupted instruction pointer and columns that it has. `is_after_call`: an address
 -- lies right after a call, by the bytes of code. `call_target`: where that call leads, if it is a direct one.
+-- `has_set`: a function from a start on has set its frame pointer before an address.
 -- `frame_pointer`: its column. `fallback`: the step by the frame pointer, of a first frame (`true`) or another. `start`: that of a first frame at the
 -- first instruction of a function. `run`: the caller of a frame by running its code from an address on over its columns.
 -- `restored`, `completed`: a caller's columns by a row, with those of a function's own, or all, that a run of the code from there tells.
@@ -44,6 +45,7 @@ pub record Machine (Regs : Type 0) : Type 0 where
   pub saved : List ℕ → Option (ℕ × List (Option ℕ))
   pub is_after_call : (ℕ → ℕ → Option (List ℕ)) → ℕ → Bool
   pub call_target : (ℕ → ℕ → Option (List ℕ)) → ℕ → Option ℕ
+  pub has_set : (ℕ → ℕ → Option (List ℕ)) → ℕ → ℕ → Bool
   pub frame_pointer : ℕ
   pub fallback : Bool → Regs → Memory → Outcome Regs
   pub start : Regs → Memory → Outcome Regs
@@ -123,6 +125,7 @@ machine_x86_64 = record {
   saved = saved_x86_64;
   is_after_call = is_after_call_x86_64;
   call_target = call_target_x86_64;
+  has_set = has_set_x86_64;
   frame_pointer = RBP;
   fallback = outcome_x86_64 UseFramePointerX86_64;
   start = outcome_x86_64 JustReturn true;
@@ -170,6 +173,7 @@ machine_aarch64 = record {
   saved = saved_aarch64;
   is_after_call = is_after_call_aarch64;
   call_target = call_target_aarch64;
+  has_set = has_set_aarch64;
   frame_pointer = X29;
   fallback = outcome_aarch64 UseFramePointerAarch64;
   start = outcome_aarch64 NoOp true;

@@ -3,7 +3,7 @@ ghost use Rattle.std.specs.Prelude.{◌≡◌, ◌≤◌, ◌+◌, ◌*◌, Some
 ghost use Rattle.framehop_bytes.specs.Bytes.{le8};
 ghost use Rattle.framehop_backtrace.specs.Columns.{columns_by};
 
-use crate::call::{call_target_aarch64, is_after_call_aarch64};
+use crate::call::{call_target_aarch64, has_set_aarch64, is_after_call_aarch64};
 use crate::covers::is_covered;
 use crate::info::is_by_info;
 use crate::machine::{BacktraceUnwinder, known_or};
@@ -87,6 +87,10 @@ impl<D: SectionBytes + Drop, P: AllocationPolicy> BacktraceUnwinder for Unwinder
 
     fn call_target<M: CodeMemory>(memory: &M, address: u64) -> Option<u64> {
         call_target_aarch64(memory, address)
+    }
+
+    fn has_set<M: CodeMemory>(memory: &M, start: u64, address: u64) -> bool {
+        has_set_aarch64(memory, start, address)
     }
 
     fn frame_pointer() -> Register {

@@ -1,8 +1,10 @@
 //! Call instructions, by their bytes.
-ghost use Rattle.std.specs.Prelude.{◌≡◌, ◌≤◌, ◌+◌, ◌*◌, ◌^◌};
-ghost use Rattle.framehop_backtrace.specs.Call.{byte_of, modrm_length, is_direct_call, is_indirect_call, is_call_x86_64, is_call_aarch64, is_after, is_after_call_x86_64, is_after_call_aarch64, is_after_indirect_call, number_of, distance_of, target_x86_64, target_aarch64, call_target_x86_64, call_target_aarch64};
+ghost use Rattle.std.specs.Prelude.{◌≡◌, ◌≤◌, ◌+◌, ◌*◌, ◌^◌, ◌<◌, nat_eq};
+ghost use Rattle.std.specs.Cmp.Lexicographic.{pointwise};
+ghost use Rattle.framehop_backtrace.specs.Call.{byte_of, modrm_length, is_direct_call, is_indirect_call, is_call_x86_64, is_call_aarch64, is_after, is_after_call_x86_64, is_after_call_aarch64, is_after_indirect_call, number_of, distance_of, target_x86_64, target_aarch64, call_target_x86_64, call_target_aarch64, ENDBR64, sets_rbp, sets_x29, passes_before, has_set_x86_64, has_set_aarch64};
 
 use crate::memory::CodeMemory;
+use framehop_bytes::bytes::back;
 
 /// Returns whether an address (AVMA) lies right after a call of x86_64: `E8` with an offset of 32 bits, or `FF /2` of
 /// any length.
@@ -51,6 +53,71 @@ pub(crate) fn call_target_aarch64<M: CodeMemory>(memory: &M, address: u64) -> Op
     ensures { result ≡ call_target_aarch64 (M.code memory.now).bytes address }
 {
     target_aarch64(address, memory.bytes_at(address.saturating_sub(4), 4)?)
+}
+
+/// Returns whether a function of x86_64 that begins at an address (AVMA) has set rbp before another: it begins with
+/// `push rbp` and `mov rbp, rsp`, or these are after `endbr64`.
+///
+/// Source: Intel 64 and IA-32 Architectures Software Developer's Manual, volume 2, `PUSH`, `MOV` and `ENDBR64`.
+pub(crate) fn has_set_x86_64<M: CodeMemory>(memory: &M, start: u64, address: u64) -> bool
+    ensures { result ≡ has_set_x86_64 (M.code memory.now).bytes start address }
+{
+    if sets_rbp_before(memory, start, address) {
+        return true;
+    }
+    match (memory.bytes_at(start, 4), start.checked_add(4)) {
+        (Some(code), Some(next)) if code == [0xf3, 0x0f, 0x1e, 0xfa].as_slice() => {
+            sets_rbp_before(memory, next, address)
+        }
+        _ => false,
+    }
+}
+
+/// Returns whether a function of aarch64 that begins at an address (AVMA) has set x29 before another: it begins with `stp`
+/// of x29 and x30 below sp, which it lowers, and `mov x29, sp`.
+///
+/// Source: Arm Architecture Reference Manual, C6.2.
+pub(crate) fn has_set_aarch64<M: CodeMemory>(memory: &M, start: u64, address: u64) -> bool
+    ensures { result ≡ has_set_aarch64 (M.code memory.now).bytes start address }
+{
+    if address < start || address - start < 8 {
+        return false;
+    }
+    match memory.bytes_at(start, 8) {
+        Some(code) => sets_x29(code),
+        None => false,
+    }
+}
+
+/// Returns whether the code from an address (AVMA) on sets rbp before another.
+fn sets_rbp_before<M: CodeMemory>(memory: &M, start: u64, address: u64) -> bool
+    ensures { result ≡ passes_before sets_rbp (M.code memory.now).bytes 4 start address }
+{
+    if address < start || address - start < 4 {
+        return false;
+    }
+    match memory.bytes_at(start, 4) {
+        Some(code) => sets_rbp(code),
+        None => false,
+    }
+}
+
+/// Returns whether bytes are a PUSH of rbp and a MOV of rsp to rbp.
+fn sets_rbp(code: &[u8]) -> bool
+    ensures { result ≡ sets_rbp code.now }
+{
+    code == [0x55, 0x48, 0x89, 0xe5].as_slice() || code == [0x55, 0x48, 0x8b, 0xec].as_slice()
+}
+
+/// Returns whether bytes are a STP of x29 and x30 below sp and a MOV of sp to x29.
+fn sets_x29(code: &[u8]) -> bool
+    ensures { result ≡ sets_x29 code.now }
+{
+    byte_of(code, 0) == 0xfd
+        && byte_of(code, 1) == 0x7b
+        && byte_of(code, 2) >= 0x80
+        && byte_of(code, 3) == 0xa9
+        && back(code, 4) == [0xfd, 0x03, 0x00, 0x91].as_slice()
 }
 
 /// Returns whether an address (AVMA) lies right after a call of so many bytes.

@@ -1,6 +1,6 @@
 //! What tells that a word of a stack is the return address of a call.
 ghost use Rattle.std.specs.Prelude.{◌≡◌};
-ghost use Rattle.framehop_backtrace.specs.Guess.{rank_of, is_better, evidence_of_call, evidence_at, evidence_of};
+ghost use Rattle.framehop_backtrace.specs.Guess.{rank_of, is_better, prefers_frame_pointer, evidence_of_call, evidence_at, evidence_of};
 
 use crate::machine::BacktraceUnwinder;
 use crate::memory::{CodeMemory, is_in_code, is_unread};
@@ -37,6 +37,19 @@ impl Evidence {
             Evidence::PossibleCall => 1,
             Evidence::Call => 2,
         }
+    }
+}
+
+/// Returns whether the frame pointer's address is preferred to a guess, by what tells that they are return addresses, and by
+/// whether the function has set its frame pointer: what is at the stack pointer then is no return address, if the function
+/// has stored anything since.
+pub(crate) fn prefers_frame_pointer(is_set: bool, followed: Evidence, guess: Evidence) -> bool
+    ensures { result ≡ prefers_frame_pointer is_set followed guess }
+{
+    if is_set {
+        followed.is_better(Evidence::NoCall) && !guess.is_better(followed)
+    } else {
+        followed.is_better(guess)
     }
 }
 

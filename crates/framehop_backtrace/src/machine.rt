@@ -65,6 +65,11 @@ pub trait BacktraceUnwinder: Unwinder {
     fn call_target<M: CodeMemory>(memory: &M, address: u64) -> Option<u64>
         ensures { result ≡ machine.call_target (M.code memory.now).bytes address };
 
+    /// Returns whether a function that begins at an address (AVMA) has set its frame pointer before another, by its first
+    /// instructions.
+    fn has_set<M: CodeMemory>(memory: &M, start: u64, address: u64) -> bool
+        ensures { result ≡ machine.has_set (M.code memory.now).bytes start address };
+
     /// Returns the column of the frame pointer.
     fn frame_pointer() -> Register
         ensures { result ≡ record { 0 = machine.frame_pointer } };

@@ -1,8 +1,10 @@
 //! The memory of a process with its code.
 ghost use Rattle.std.specs.Prelude.{◌≡◌, option_map};
+ghost use Rattle.framehop_code.specs.X86_64.Action.{action_at};
 ghost use Rattle.framehop_core.specs.CodeAddress.{location_of};
 ghost use Rattle.framehop_backtrace.specs.Code.{Code, is_in_trampoline, is_in_code, is_outside_code, is_unread};
 
+use framehop_code::x86_64::action::Instruction;
 use framehop_columns::memory::WordMemory;
 use framehop_core::FrameAddress;
 
@@ -13,6 +15,12 @@ pub trait CodeMemory: WordMemory {
     /// Returns so many bytes from an address (AVMA) on, if they are known.
     fn bytes_at(&self, address: u64, size: u64) -> Option<&[u8]>
         ensures { option_map (λ found. found.now) result ≡ (code self.now).bytes address size };
+
+    /// Returns the instruction of x86_64 at the front of bytes, as [`action_at`] does. What was read before may be kept.
+    ///
+    /// [`action_at`]: framehop_code::x86_64::action::action_at
+    fn instruction_of(&self, bytes: &[u8]) -> Option<Instruction>
+        ensures { result ≡ action_at bytes.now 0 };
 
     /// Returns whether an address (AVMA) lies in executable memory.
     fn is_executable(&self, address: u64) -> bool
@@ -25,6 +33,11 @@ pub trait CodeMemory: WordMemory {
     /// Returns where the function begins (AVMA) that has an address, if a symbol or an FDE tells that.
     fn function_start(&self, address: u64) -> Option<u64>
         ensures { result ≡ (code self.now).start_of address };
+
+    /// Returns whether a process begins a few instructions before an address (AVMA), in the first code of a program or of the
+    /// loader of programs.
+    fn is_at_entry(&self, address: u64) -> bool
+        ensures { result ≡ (code self.now).is_entry address };
 }
 
 /// Returns whether a frame is in a trampoline: a handler returns to the first of its two instructions, and an instruction

@@ -9,10 +9,10 @@ ghost use Rattle.framehop_backtrace.specs.Rows.{Finding, IsRow, finding_of};
 ghost use Rattle.framehop_backtrace.specs.Kept.{AreFound, kept_rows};
 ghost use Rattle.framehop_backtrace.specs.Columns.{returned_to};
 ghost use Rattle.framehop_backtrace.specs.Covers.{is_covered};
-ghost use Rattle.framehop_backtrace.specs.Backtrace.{frame_view, moved_to, by_signal, by_row_of, restored_columns, returned_as, stepped, is_by_frame_pointer, has_no_frame_pointer, end_of_error, end_without_caller, guessed, by_library, by_guess, by_start, without_row, run_source, by_run, caller_or, completed, row_or, by_finding, stack_of, next_of};
+ghost use Rattle.framehop_backtrace.specs.Backtrace.{frame_view, moved_to, by_signal, by_row_of, restored_columns, returned_as, stepped, is_by_frame_pointer, has_no_frame_pointer, end_of_error, end_without_caller, guessed, by_library, by_guess, by_start, without_row, run_source, by_run, caller_or, completed, row_or, by_finding, end_at_entry, at_entry, has_set_from, stack_of, next_of};
 
 use crate::frame::{BacktraceEnd, FoundBy, Frame, end_of_refusal, is_unknown, root_of};
-use crate::guess::{Evidence, evidence_of};
+use crate::guess::{Evidence, evidence_of, prefers_frame_pointer};
 use crate::kept::{FoundRow, RowRoom};
 use crate::machine::{BacktraceUnwinder, known_or};
 use crate::memory::{CodeMemory, is_in_code, is_in_trampoline, is_outside_code};
@@ -38,12 +38,14 @@ use std::alloc::{AllocError, Global};
 ///    known, has its caller by running its code, if that returns to an address right after a call, or after code that
 ///    nobody has. In a walk the row is first tried over the registers that a run of the callee's code knows.
 /// 4. Else the library's step is taken, over the registers that it has. The rule of a function's start is a guess: its
-///    return address is compared with that of the frame pointer, and taken unless that is likelier. Either must lie right
+///    return address is compared with that of the frame pointer, and taken unless that is likelier, or as likely in a
+///    function that has set its frame pointer. Either must lie right
 ///    after a call, or after code that nobody has; a direct call of another function is less likely than other calls, and
 ///    one of the frame's function likelier. Where an instruction pointer lies in no code, a call has just led there: this
 ///    guess is made, too.
 ///
-/// A return address of 2, 3 and 4 must lie in executable memory. Only 4 looks at the cache.
+/// A return address of 2, 3 and 4 must lie in executable memory. Only 4 looks at the cache. Where a process begins a frame
+/// pointer of 0 is a root.
 ///
 /// # Errors
 ///
@@ -144,8 +146,42 @@ fn by_finding<U: BacktraceUnwinder, M: CodeMemory, S: UnwindContextStorage>(
         RowFinding::Row(section) => Ok(by_row_or_run(
             alloc, unwinder, section, row, memory, callee, frame,
         )),
-        RowFinding::Uncovered => by_run_or_start(unwinder, cache, memory, frame),
-        RowFinding::NoRow => without_row(unwinder, cache, memory, frame),
+        RowFinding::Uncovered => {
+            let address = frame.address.address_for_lookup();
+            let moved = by_run_or_start(unwinder, cache, memory, frame)?;
+            Ok(at_entry(memory, address, moved))
+        }
+        RowFinding::NoRow => {
+            let address = frame.address.address_for_lookup();
+            let moved = without_row(unwinder, cache, memory, frame)?;
+            Ok(at_entry(memory, address, moved))
+        }
+    }
+}
+
+/// Returns whether a frame at an address (AVMA) was made its caller, or the end there: a frame pointer of 0 is a root where
+/// a process begins.
+fn at_entry<M: CodeMemory>(
+    memory: &M,
+    address: u64,
+    moved: Result<(), BacktraceEnd>,
+) -> Result<(), BacktraceEnd>
+    ensures some { (moved ≡ Ok tt) → result ≡ Ok tt }
+    ensures none { (end : BacktraceEnd) → moved ≡ Err end → result ≡ Err (end_at_entry ((M.code memory.now).is_entry address) end) }
+{
+    match moved {
+        Ok(()) => Ok(()),
+        Err(end) => Err(end_at_entry(memory.is_at_entry(address), end)),
+    }
+}
+
+/// Returns the end of a stack at a place where a process begins, or elsewhere.
+fn end_at_entry(is_entry: bool, end: BacktraceEnd) -> BacktraceEnd
+    ensures { result ≡ end_at_entry is_entry end }
+{
+    match end {
+        BacktraceEnd::FramePointerZero if is_entry => BacktraceEnd::Root,
+        end => end,
     }
 }
 
@@ -532,13 +568,30 @@ fn guessed<U: BacktraceUnwinder, M: CodeMemory>(
     let fallback = U::follow_frame_pointer(memory, is_first_frame, &mut followed);
     let start = memory.function_start(frame.address.address());
     let evidence = evidence_of::<U, M>(memory, start, answer);
-    if evidence_of::<U, M>(memory, start, fallback).is_better(evidence) {
+    let followed_evidence = evidence_of::<U, M>(memory, start, fallback);
+    let is_set = has_set_from::<U, M>(memory, start, frame.address.address());
+    if prefers_frame_pointer(is_set, followed_evidence, evidence) {
         return stepped::<U, M>(memory, frame, FoundBy::FramePointer, fallback, followed);
     }
     if evidence.is_better(Evidence::NoCall) {
         return stepped::<U, M>(memory, frame, FoundBy::Guess, answer, regs);
     }
     Err(end_without_caller::<U>(&frame.columns, fallback))
+}
+
+/// Returns whether the function that has an address (AVMA) has set its frame pointer before it, if the function's start (AVMA)
+/// is known.
+fn has_set_from<U: BacktraceUnwinder, M: CodeMemory>(
+    memory: &M,
+    start: Option<u64>,
+    address: u64,
+) -> bool
+    ensures { result ≡ has_set_from U.machine (M.code memory.now) address start }
+{
+    match start {
+        Some(start) => U::has_set(memory, start, address),
+        None => false,
+    }
 }
 
 /// Returns the end of a stack where neither a guess nor the frame pointer leads to a caller, by what the frame pointer's step

@@ -8,6 +8,7 @@ use crate::frame::{FoundBy, Frame};
 use crate::guess::{Evidence, evidence_at};
 use crate::machine::BacktraceUnwinder;
 use crate::memory::CodeMemory;
+use framehop_code::x86_64::action::Instruction;
 use framehop_columns::memory::WordMemory;
 use framehop_core::FrameAddress;
 use framehop_runs::run::RunCaller;
@@ -41,6 +42,10 @@ impl<U: BacktraceUnwinder, M: CodeMemory> RunMemory for ProcessCode<'_, U, M> {
 
     fn code_at(&self, address: u64) -> &[u8] {
         code_at(self.memory, address)
+    }
+
+    fn instruction_at(&self, address: u64) -> Option<Instruction> {
+        self.memory.instruction_of(code_at(self.memory, address))
     }
 
     fn is_covered(&self, address: u64) -> bool {

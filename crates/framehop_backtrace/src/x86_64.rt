@@ -4,7 +4,7 @@ ghost use Rattle.framehop_core.specs.X86_64.Registers.{register as register_of, 
 ghost use Rattle.framehop_backtrace.specs.Columns.{column};
 ghost use Rattle.framehop_backtrace.specs.Machine.{all_columns, column_of, merged_x86_64};
 
-use crate::call::{call_target_x86_64, is_after_call_x86_64};
+use crate::call::{call_target_x86_64, has_set_x86_64, is_after_call_x86_64};
 use crate::covers::is_covered;
 use crate::info::is_by_info;
 use crate::machine::{BacktraceUnwinder, known_or};
@@ -82,6 +82,10 @@ impl<D: SectionBytes + Drop, P: AllocationPolicy> BacktraceUnwinder for Unwinder
 
     fn call_target<M: CodeMemory>(memory: &M, address: u64) -> Option<u64> {
         call_target_x86_64(memory, address)
+    }
+
+    fn has_set<M: CodeMemory>(memory: &M, start: u64, address: u64) -> bool {
+        has_set_x86_64(memory, start, address)
     }
 
     fn frame_pointer() -> Register {

@@ -1,6 +1,6 @@
 //! A stack of aarch64, with pointer authentication.
 use crate::dump::{CODE_SIZE, Dump, STACK, dump_of, file_of};
-use crate::traces::{ColumnRow, FrameRow, has_columns, is_trace};
+use crate::traces::{ColumnRow, FrameRow, frame_row, has_columns, is_trace};
 use crate::unwinders::{LentAarch64, sections_of, unwinder_aarch64};
 use framehop::Unwinder;
 use framehop::aarch64::{CacheAarch64, PtrAuthMask, UnwindRegsAarch64};
@@ -52,11 +52,20 @@ const COLUMNS: [(u16, u64); 5] = [
 fn handler() -> Frame<UnwindRegsAarch64> {
     let mask = PtrAuthMask::new_24_40();
     let regs = UnwindRegsAarch64::new_with_ptr_auth_mask(mask, 0x401014, STACK, 0x7ff0);
+    first_frame(0x401004, regs, &COLUMNS)
+}
+
+/// Returns a frame with these registers by their columns.
+fn first_frame(
+    pc: u64,
+    regs: UnwindRegsAarch64,
+    values: &[(u16, u64)],
+) -> Frame<UnwindRegsAarch64> {
     let mut columns = RegisterFile::new();
-    for (column, value) in COLUMNS {
-        columns.set(Register(column), Some(value));
+    for (column, value) in values {
+        columns.set(Register(*column), Some(*value));
     }
-    Frame::first(0x401004, columns, regs)
+    Frame::first(pc, columns, regs)
 }
 
 /// Returns an unwinder that has the program.
@@ -65,11 +74,12 @@ fn unwinder(alloc: Global) -> Result<LentAarch64, Fail> {
     unwinder_aarch64(alloc, sections)
 }
 
-/// Returns the backtrace from the handler on.
+/// Returns the backtrace from a frame on.
 fn backtrace_in(
     alloc: Global,
     unwinder: &LentAarch64,
     memory: &Dump<'_>,
+    first: Frame<UnwindRegsAarch64>,
 ) -> Result<StackTrace<UnwindRegsAarch64>, AllocError> {
     let mut cache = CacheAarch64::new(alloc)?;
     let mut room = RowRoom::<StoreOnStack>::new_in(alloc)?;
@@ -80,7 +90,7 @@ fn backtrace_in(
         &mut room,
         &mut cache,
         memory,
-        handler(),
+        first,
         10,
     )
 }
@@ -90,7 +100,7 @@ fn backtrace_of_stack(alloc: Global) -> Result<StackTrace<UnwindRegsAarch64>, Fa
     let unwinder = unwinder(alloc)?;
     let file = file_of(&CODE_PIECES, &WORDS);
     let memory = dump_of(alloc, &file, CODE_SIZE)?;
-    Ok(backtrace_in(alloc, &unwinder, &memory)?)
+    Ok(backtrace_in(alloc, &unwinder, &memory, handler())?)
 }
 
 /// The frames from the handler on.
@@ -133,5 +143,37 @@ const KNOWN: [ColumnRow; 14] = [
 fn knows_the_registers_of_frames(rt: HostRuntime) -> Result<(), Fail> {
     let found = backtrace_of_stack(rt.alloc())?;
     assert!(rt; has_columns(&found, &KNOWN));
+    Ok(())
+}
+
+/// `bl`, and a function at 0x401080 that begins with `stp x29, x30, [sp, #-32]!` and `mov x29, sp`.
+const CODE_OF_PROLOGUE: [(usize, &[u8]); 2] = [
+    (0x30, &[0x04, 0x00, 0x00, 0x94]),
+    (0x80, &[0xfd, 0x7b, 0xbe, 0xa9, 0xfd, 0x03, 0x00, 0x91]),
+];
+
+/// The frame record of that function, with a return address after code that nobody has.
+const WORDS_OF_PROLOGUE: [(u64, u64); 2] = [(0x7600, 0x7700), (0x7608, 0x401280)];
+
+/// Returns the first caller of that function at a place, where lr is after the `bl`.
+fn called_from(alloc: Global, pc: u64) -> Result<Option<FrameRow>, Fail> {
+    let unwinder = unwinder(alloc)?;
+    let file = file_of(&CODE_OF_PROLOGUE, &WORDS_OF_PROLOGUE);
+    let mut memory = dump_of(alloc, &file, CODE_SIZE)?;
+    memory.code_end = 0x401300;
+    memory.function_start = Some(0x401080);
+    let regs = UnwindRegsAarch64::new(0x401034, STACK, 0x7600);
+    let columns = [(29, 0x7600), (30, 0x401034), (31, STACK), (32, pc)];
+    let first = first_frame(pc, regs, &columns);
+    let found = backtrace_in(alloc, &unwinder, &memory, first)?;
+    Ok(frame_row(&found, 1))
+}
+
+#[test]
+fn follows_a_frame_pointer_that_is_set(rt: HostRuntime) -> Result<(), Fail> {
+    let before = called_from(rt.alloc(), 0x401084)?;
+    assert!(rt; before == Some((0x401034, true, FoundBy::Guess)));
+    let after = called_from(rt.alloc(), 0x401088)?;
+    assert!(rt; after == Some((0x401280, true, FoundBy::FramePointer)));
     Ok(())
 }

@@ -2,6 +2,7 @@
 ghost use Rattle.std.specs.Prelude.{◌≡◌};
 
 use framehop_backtrace::memory::CodeMemory;
+use framehop_code::x86_64::action::{Instruction, action_at};
 use framehop_columns::memory::WordMemory;
 use framehop_memory::memory::{MemoryRange, ProcessMemory};
 use framehop_signal::trampoline::is_trampoline;
@@ -14,6 +15,8 @@ pub(crate) struct Dump<'a> {
     pub(crate) code_start: u64,
     pub(crate) code_end: u64,
     pub(crate) function_start: Option<u64>,
+    /// Where the process begins.
+    pub(crate) entry: u64,
 }
 
 impl<'a> WordMemory for Dump<'a> {
@@ -27,7 +30,7 @@ impl<'a> WordMemory for Dump<'a> {
 }
 
 impl<'a> CodeMemory for Dump<'a> {
-    ghost use Rattle.std.specs.Prelude.{nat_le, nat_lt, ◌&&◌};
+    ghost use Rattle.std.specs.Prelude.{nat_le, nat_lt, nat_eq, ◌&&◌};
     ghost use Rattle.framehop_memory.specs.Memory.{memory_view, bytes_of, bytes_after};
     ghost use Rattle.framehop_signal.specs.Trampoline.{is_trampoline};
     ghost use Rattle.framehop_backtrace.specs.Call.{passes};
@@ -37,6 +40,7 @@ impl<'a> CodeMemory for Dump<'a> {
       is_executable = λ address. nat_le dump.code_start address && nat_lt address dump.code_end;
       is_trampoline = λ address. passes is_trampoline (bytes_after (memory_view dump.memory) address);
       start_of = λ address. dump.function_start;
+      is_entry = λ address. nat_eq address dump.entry;
     } };
 
     fn bytes_at(&self, address: u64, size: u64) -> Option<&[u8]> {
@@ -56,6 +60,14 @@ impl<'a> CodeMemory for Dump<'a> {
 
     fn function_start(&self, _address: u64) -> Option<u64> {
         self.function_start
+    }
+
+    fn is_at_entry(&self, address: u64) -> bool {
+        address == self.entry
+    }
+
+    fn instruction_of(&self, bytes: &[u8]) -> Option<Instruction> {
+        action_at(bytes, 0)
     }
 }
 
@@ -87,6 +99,7 @@ pub(crate) fn dump_of(alloc: Global, file: &[u8], code_size: u64) -> Result<Dump
         code_start: CODE,
         code_end: CODE.saturating_add(code_size),
         function_start: None,
+        entry: 0,
     })
 }
 

@@ -423,6 +423,100 @@ fn compares_the_calls_of_a_function(rt: HostRuntime) -> Result<(), Fail> {
     Ok(())
 }
 
+/// A function at 0x4010d0 that sets its frame pointer, by its first bytes.
+const SETS_IT: &'static [u8] = &[0x55, 0x48, 0x89, 0xe5];
+
+const SETS_IT_OTHERWISE: &'static [u8] = &[0x55, 0x48, 0x8b, 0xec];
+
+const SETS_IT_AFTER_ENDBR64: &'static [u8] = &[0xf3, 0x0f, 0x1e, 0xfa, 0x55, 0x48, 0x89, 0xe5];
+
+const SETS_ANOTHER: &'static [u8] = &[0x55, 0x48, 0x89, 0xe3];
+
+/// The first bytes of the function, the instruction pointer, the words at the stack pointer and at the frame pointer, and the
+/// caller.
+type Prologue = (&'static [u8], u64, (u64, u64), (u64, FoundBy));
+
+const PROLOGUES: [Prologue; 9] = [
+    (
+        SETS_IT,
+        0x4010d3,
+        (OTHER, INDIRECT),
+        (OTHER, FoundBy::Guess),
+    ),
+    (
+        SETS_IT,
+        0x4010d4,
+        (OTHER, INDIRECT),
+        (INDIRECT, FoundBy::FramePointer),
+    ),
+    (
+        SETS_IT_OTHERWISE,
+        0x4010e0,
+        (OTHER, INDIRECT),
+        (INDIRECT, FoundBy::FramePointer),
+    ),
+    (
+        SETS_IT_AFTER_ENDBR64,
+        0x4010d7,
+        (OTHER, INDIRECT),
+        (OTHER, FoundBy::Guess),
+    ),
+    (
+        SETS_IT_AFTER_ENDBR64,
+        0x4010d8,
+        (OTHER, INDIRECT),
+        (INDIRECT, FoundBy::FramePointer),
+    ),
+    (
+        SETS_ANOTHER,
+        0x4010d4,
+        (OTHER, INDIRECT),
+        (OTHER, FoundBy::Guess),
+    ),
+    // a direct call of the function
+    (
+        SETS_IT,
+        0x4010d4,
+        (OF_FUNCTION, INDIRECT),
+        (OF_FUNCTION, FoundBy::Guess),
+    ),
+    // the frame pointer leads to no call
+    (SETS_IT, 0x4010d4, (OTHER, NO_CALL), (OTHER, FoundBy::Guess)),
+    (
+        SETS_IT,
+        0x4010d4,
+        (NO_CALL, OTHER),
+        (OTHER, FoundBy::FramePointer),
+    ),
+];
+
+/// Returns the first caller of a function at 0x4010d0, by its first bytes.
+fn called_from(alloc: Global, prologue: Prologue) -> Result<Option<FrameRow>, Fail> {
+    let (code, pc, (at_stack, at_frame), _) = prologue;
+    let unwinder = unwinder(alloc)?;
+    let mut pieces = [(0xd0, code); 8];
+    for (place, piece) in pieces.iter_mut().zip(&CALLS) {
+        *place = *piece;
+    }
+    let words = [(0x7000, at_stack), (0x7100, 0x7140), (0x7108, at_frame)];
+    let file = file_of(&pieces, &words);
+    let mut memory = dump_of(alloc, &file, CODE_SIZE)?;
+    memory.function_start = Some(0x4010d0);
+    let regs = UnwindRegsX86_64::new(pc, 0x7000, 0x7100);
+    let found = backtrace_in(alloc, &unwinder, unwinder.inner(), &memory, regs, 2)?;
+    Ok(frame_row(&found, 1))
+}
+
+#[test]
+fn follows_a_frame_pointer_that_is_set(rt: HostRuntime) -> Result<(), Fail> {
+    for prologue in PROLOGUES {
+        let (address, found) = prologue.3;
+        let caller = called_from(rt.alloc(), prologue)?;
+        assert!(rt; caller == Some((address, true, found)), "{address:x}");
+    }
+    Ok(())
+}
+
 /// The return address of a function of the first FDE, after `call *%rax` of a function that no FDE covers.
 const WORDS_OF_STARTS: [(u64, u64); 1] = [(0x7000 + 24, 0x4010e0)];
 
@@ -436,6 +530,23 @@ fn ends_where_the_frame_pointer_is_0(rt: HostRuntime) -> Result<(), Fail> {
         let regs = UnwindRegsX86_64::new(0x401004, 0x7000, rbp);
         let found = outline_of(rt.alloc(), &WORDS_OF_STARTS, regs, 10)?;
         assert!(rt; (found.0, found.1) == (end, 2));
+    }
+    Ok(())
+}
+
+#[test]
+fn a_process_begins_at_a_root(rt: HostRuntime) -> Result<(), Fail> {
+    let unwinder = unwinder(rt.alloc())?;
+    let file = file_of(&CODE_PIECES, &WORDS_OF_STARTS);
+    for (entry, rbp, end) in [
+        (0x4010df, 0, BacktraceEnd::Root),
+        (0x4010e0, 0, BacktraceEnd::FramePointerZero),
+    ] {
+        let mut memory = dump_of(rt.alloc(), &file, CODE_SIZE)?;
+        memory.entry = entry;
+        let regs = UnwindRegsX86_64::new(0x401004, 0x7000, rbp);
+        let found = backtrace_in(rt.alloc(), &unwinder, unwinder.inner(), &memory, regs, 10)?;
+        assert!(rt; (found.end, found.frames.len()) == (end, 2));
     }
     Ok(())
 }
