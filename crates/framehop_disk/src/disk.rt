@@ -11,6 +11,7 @@ use framehop_frames::json_files::FilePaths;
 use framehop_symbols::files::{FileSource, Files, is_vdso, is_windows_path};
 use framehop_symbols::made_up_id::is_made_up;
 use framehop_symbols::object_file::build_id_of;
+use framehop_symbols::read_refusal::ReadRefusal;
 use std::alloc::{AllocError, Global};
 use std::cell::Cell;
 use std::fmt::Display;
@@ -68,6 +69,9 @@ struct ReadFile {
     bytes: Vec<u8>,
 }
 
+/// A file that was read, or why it was not.
+type Read = Result<ReadFile, ReadRefusal>;
+
 impl FileSource for Disk<'_, '_> {
     // what a disk gives is not known
     ghost source = { λ disk. record {
@@ -76,17 +80,21 @@ impl FileSource for Disk<'_, '_> {
       gives_debug = λ name build_id link given. Unit {0};
     } };
 
-    fn read_file(&self, name: &[u8], build_id: &[u8]) -> Result<Option<Vec<u8>>, AllocError> {
+    fn read_file(
+        &self,
+        name: &[u8],
+        build_id: &[u8],
+    ) -> Result<Result<Vec<u8>, ReadRefusal>, AllocError> {
         let alloc = self.rt.alloc();
         match self.find_file(name, build_id)? {
-            Some(read) => {
+            Ok(read) => {
                 let path = Some(read.path.as_str());
                 self.read_paths.note(alloc, name, build_id, path)?;
-                Ok(Some(read.bytes))
+                Ok(Ok(read.bytes))
             }
-            None => {
+            Err(refusal) => {
                 self.read_paths.note(alloc, name, build_id, None)?;
-                Ok(None)
+                Ok(Err(refusal))
             }
         }
     }
@@ -121,18 +129,18 @@ impl Disk<'_, '_> {
     }
 
     /// Reads a file by its name, a path or `[vdso]`.
-    fn find_file(&self, name: &[u8], build_id: &[u8]) -> Result<Option<ReadFile>, AllocError> {
+    fn find_file(&self, name: &[u8], build_id: &[u8]) -> Result<Read, AllocError> {
         if is_vdso(name) {
             return match self.vdso {
                 Some(path) => read_regular(self.rt, path),
-                None => Ok(None),
+                None => Ok(Err(ReadRefusal::NotThere)),
             };
         }
         match self.read_program(name, build_id)? {
-            Some(read) => Ok(Some(read)),
+            Some(read) => Ok(Ok(read)),
             None => match std::str::from_utf8(name) {
                 Ok(path) => self.read_below_roots(path, build_id),
-                Err(_) => Ok(None),
+                Err(_) => Ok(Err(ReadRefusal::NotUtf8)),
             },
         }
     }
@@ -161,16 +169,13 @@ impl Disk<'_, '_> {
     }
 
     /// Reads a file below the first root that has one with the wanted build id, or else below the first that has one.
-    fn read_below_roots(
-        &self,
-        path: &str,
-        build_id: &[u8],
-    ) -> Result<Option<ReadFile>, AllocError> {
-        let mut first = None;
+    fn read_below_roots(&self, path: &str, build_id: &[u8]) -> Result<Read, AllocError> {
+        let mut first = Err(ReadRefusal::NotThere);
         for root in self.roots {
             match self.read_and_judge(root, path, build_id)? {
-                Some((read, true)) => return Ok(Some(read)),
-                Some((read, false)) if first.is_none() => first = Some(read),
+                Ok((read, true)) => return Ok(Ok(read)),
+                Ok((read, false)) if first.is_err() => first = Ok(read),
+                Err(refusal) if is_not_there(&first) => first = Err(refusal),
                 _ => {}
             }
         }
@@ -183,18 +188,18 @@ impl Disk<'_, '_> {
         root: &str,
         path: &str,
         build_id: &[u8],
-    ) -> Result<Option<(ReadFile, bool)>, AllocError> {
+    ) -> Result<Result<(ReadFile, bool), ReadRefusal>, AllocError> {
         match self.read_below(root, path)? {
-            Some(read) => {
+            Ok(read) => {
                 let is_wanted = is_wanted(self.rt.alloc(), read.bytes.as_slice(), build_id)?;
-                Ok(Some((read, is_wanted)))
+                Ok(Ok((read, is_wanted)))
             }
-            None => Ok(None),
+            Err(refusal) => Ok(Err(refusal)),
         }
     }
 
     /// Reads a file below a root: one of Windows by its path after the drive, or else by its name in the root.
-    fn read_below(&self, root: &str, path: &str) -> Result<Option<ReadFile>, AllocError> {
+    fn read_below(&self, root: &str, path: &str) -> Result<Read, AllocError> {
         let alloc = self.rt.alloc();
         if !is_windows_path(path.as_bytes()) {
             let path = format!(in alloc; "{root}{path}")?;
@@ -202,42 +207,37 @@ impl Disk<'_, '_> {
         }
         let below = path_below_root(alloc, root, path)?;
         match self.read_mapped(root, below.as_str())? {
-            Some(read) => Ok(Some(read)),
-            None => self.read_inside(root, path),
+            Ok(read) => Ok(Ok(read)),
+            Err(_) => self.read_inside(root, path),
         }
     }
 
     /// Reads the file of a path of Windows by its name in a root.
-    fn read_inside(&self, root: &str, path: &str) -> Result<Option<ReadFile>, AllocError> {
+    fn read_inside(&self, root: &str, path: &str) -> Result<Read, AllocError> {
         let path = path_in_root(self.rt.alloc(), root, path)?;
         self.read_mapped(root, path.as_str())
     }
 
     /// Reads a file that was mapped, by the path to which links and `..` lead: below the root, if one is named, and else in
     /// none of the folders of files that the kernel makes up. One that was read by many other names is not read.
-    fn read_mapped(&self, root: &str, path: &str) -> Result<Option<ReadFile>, AllocError> {
+    fn read_mapped(&self, root: &str, path: &str) -> Result<Read, AllocError> {
         match found(self.rt, path, fs::canonicalize(self.rt, path))? {
-            Some(real) => self.read_real(root, path, real.as_str()),
-            None => Ok(None),
+            Ok(real) => self.read_real(root, path, real.as_str()),
+            Err(refusal) => Ok(Err(refusal)),
         }
     }
 
     /// Reads a file by its path without links, if that may be read below the root and by its name.
-    fn read_real(
-        &self,
-        root: &str,
-        name: &str,
-        real: &str,
-    ) -> Result<Option<ReadFile>, AllocError> {
+    fn read_real(&self, root: &str, name: &str, real: &str) -> Result<Read, AllocError> {
         if !self.is_allowed(root, real)? {
-            return Ok(None);
+            return Ok(Err(ReadRefusal::Outside));
         }
         let alloc = self.rt.alloc();
         if !self
             .known_names
             .allow(alloc, real.as_bytes(), name.as_bytes())?
         {
-            return Ok(None);
+            return Ok(Err(ReadRefusal::ManyNames));
         }
         read_regular(self.rt, real)
     }
@@ -281,11 +281,11 @@ impl Disk<'_, '_> {
         let alloc = self.rt.alloc();
         let path = format!(in alloc; "{folder}/{name}")?;
         match read_regular(self.rt, path.as_str())? {
-            Some(read) => {
+            Ok(read) => {
                 self.read_paths.note_copy(alloc, read.path.as_str())?;
                 Ok(Some(read.bytes))
             }
-            None => Ok(None),
+            Err(_) => Ok(None),
         }
     }
 
@@ -325,7 +325,7 @@ impl Disk<'_, '_> {
     ) -> Result<Option<ReadFile>, AllocError> {
         let mut path = build_id_path(self.rt.alloc(), folder, build_id)?;
         path.push_str(".debug")?;
-        read_regular(self.rt, path.as_str())
+        Ok(read_regular(self.rt, path.as_str())?.ok())
     }
 
     /// Reads the debug file of a build id by its name, where GDB looks for it: in the folder of the file that names it, in
@@ -362,7 +362,7 @@ impl Disk<'_, '_> {
     ) -> Result<Option<ReadFile>, AllocError> {
         let path = format!(in self.rt.alloc(); "{root}{folder}{inside}{link}")?;
         match self.read_mapped(root, path.as_str())? {
-            Some(read) if is_wanted(self.rt.alloc(), read.bytes.as_slice(), build_id)? => {
+            Ok(read) if is_wanted(self.rt.alloc(), read.bytes.as_slice(), build_id)? => {
                 Ok(Some(read))
             }
             _ => Ok(None),
@@ -397,26 +397,28 @@ fn is_wanted(alloc: Global, file: &[u8], build_id: &[u8]) -> Result<bool, AllocE
 
 /// Reads a regular file of at most 4 GiB, as [`read_object`] does: a recording may name a device or a pipe, whose bytes don't end. A file whose size
 /// is told as 0, as those that a kernel makes up when they are read, is not read.
-fn read_regular(rt: &HostRuntime, path: &str) -> Result<Option<ReadFile>, AllocError> {
+fn read_regular(rt: &HostRuntime, path: &str) -> Result<Read, AllocError> {
     match found(rt, path, fs::metadata(rt, path))? {
-        Some(metadata) if metadata.is_file() && metadata.len() > LARGEST_FILE => {
-            refuse_file(rt, path, "larger than 4 GiB, and not read")
+        Ok(metadata) if metadata.is_file() && metadata.len() > LARGEST_FILE => {
+            refuse_file(rt, path, "larger than 4 GiB, and not read")?;
+            Ok(Err(ReadRefusal::Refused))
         }
-        Some(metadata) if metadata.is_file() && metadata.len() != 0 => {
+        Ok(metadata) if metadata.is_file() && metadata.len() != 0 => {
             read_of_size(rt, path, metadata.len())
         }
-        _ => Ok(None),
+        Ok(_) => Ok(Err(ReadRefusal::NotRegular)),
+        Err(refusal) => Ok(Err(refusal)),
     }
 }
 
 /// Reads a file of a size, as [`read_object`] does.
-fn read_of_size(rt: &HostRuntime, path: &str, size: u64) -> Result<Option<ReadFile>, AllocError> {
+fn read_of_size(rt: &HostRuntime, path: &str, size: u64) -> Result<Read, AllocError> {
     match found(rt, path, read_object(rt, path, size))? {
-        Some(bytes) => Ok(Some(ReadFile {
+        Ok(bytes) => Ok(Ok(ReadFile {
             path: String::from_str(rt.alloc(), path)?,
             bytes,
         })),
-        None => Ok(None),
+        Err(refusal) => Ok(Err(refusal)),
     }
 }
 
@@ -426,44 +428,61 @@ pub fn read_perf_map(rt: &HostRuntime, path: &str) -> Result<Option<Vec<u8>>, Al
     let metadata = match fs::metadata(rt, path) {
         Ok(metadata) => metadata,
         Err(error) if error.kind() == ErrorKind::NotFound => return Ok(None),
-        Err(error) => return refuse_file(rt, path, error),
+        Err(error) => return no_file(rt, path, error),
     };
     if !metadata.is_file() || metadata.len() > LARGEST_MAP {
-        return refuse_file(rt, path, "no regular file of at most 256 MiB");
+        return no_file(rt, path, "no regular file of at most 256 MiB");
     }
     if metadata.uid() != 0 && Some(metadata.uid()) != user(rt) {
-        return refuse_file(rt, path, "not read, since it belongs to another user");
+        return no_file(rt, path, "not read, since it belongs to another user");
     }
     match read_sized(rt, path, metadata.len()) {
-        Err(error) if error.kind() != ErrorKind::OutOfMemory => refuse_file(rt, path, error),
+        Err(error) if error.kind() != ErrorKind::OutOfMemory => no_file(rt, path, error),
         read => known(read),
     }
 }
 
-/// Returns what a system gives of a file, or `None` where there is no such file. Where the system refuses it, says why.
+/// Says why a file is not read, and returns none.
+fn no_file<D: Display + Drop>(
+    rt: &HostRuntime,
+    path: &str,
+    why: D,
+) -> Result<Option<Vec<u8>>, AllocError> {
+    refuse_file(rt, path, why)?;
+    Ok(None)
+}
+
+/// Returns what a system gives of a file, or why it does not. Where it refuses a file that is there, says why.
 fn found<T: Drop>(
     rt: &HostRuntime,
     path: &str,
     given: io::Result<T>,
-) -> Result<Option<T>, AllocError> {
+) -> Result<Result<T, ReadRefusal>, AllocError> {
     match given {
-        Ok(given) => Ok(Some(given)),
+        Ok(given) => Ok(Ok(given)),
         Err(error) => match error.kind() {
             ErrorKind::OutOfMemory => Err(AllocError),
-            ErrorKind::NotFound | ErrorKind::NotADirectory => Ok(None),
-            _ => refuse_file(rt, path, error),
+            ErrorKind::NotFound | ErrorKind::NotADirectory => Ok(Err(ReadRefusal::NotThere)),
+            _ => {
+                refuse_file(rt, path, error)?;
+                Ok(Err(ReadRefusal::Refused))
+            }
         },
     }
 }
 
+/// Returns whether there was no file.
+fn is_not_there(read: &Read) -> bool {
+    match read {
+        Err(refusal) => *refusal == ReadRefusal::NotThere,
+        Ok(_) => false,
+    }
+}
+
 /// Says why a file is not read.
-fn refuse_file<T: Drop, D: Display + Drop>(
-    rt: &HostRuntime,
-    path: &str,
-    why: D,
-) -> Result<Option<T>, AllocError> {
+fn refuse_file<D: Display + Drop>(rt: &HostRuntime, path: &str, why: D) -> Result<(), AllocError> {
     known(say_of(rt, path, why))?;
-    Ok(None)
+    Ok(())
 }
 
 /// Returns the number of the user who runs the program, if the system tells it.

@@ -10,6 +10,7 @@ use Rattle.framehop_processes.specs.declared.mapping.Mapping.{Mapping}
 use Rattle.framehop_symbols.specs.Files.{number_in}
 use Rattle.framehop_symbols.specs.Found.{has_names, is_unwind_data}
 use Rattle.framehop_symbols.specs.FramesText.{IsFramesText}
+use Rattle.framehop_symbols.specs.ReadRefusal.{refusal_text}
 use Rattle.framehop_symbols.specs.declared.files.Files.{Files}
 use Rattle.framehop_symbols.specs.declared.files.NamedFile.{NamedFile}
 use Rattle.framehop_symbols.specs.declared.object_file.ObjectFile.{ObjectFile}
@@ -71,11 +72,11 @@ abbrev pub AreObjectLines : List ℕ → ObjectFile → List ℕ → Type 0
 AreObjectLines name object lines = (frames : List ℕ) × IsFramesText object.frames_problem frames
     × (lines ≡ lack_line name (lack_text (is_unwind_data object.«module».unwind_data) (has_names object.symbols.items)) ++ lack_line name frames)
 
--- why nothing was read of a file, after its name: it is not there, it is another one, or its reader's reason, as that prints
+-- why nothing was read of a file, after its name: it is not given, it is another one, or its reader's reason, as that prints
 -- itself
 abbrev pub IsProblemText : Kind → FileProblem → List ℕ → Type 0
 IsProblemText kind OtherBuildId text = text ≡ codes ": its build id is not the " ++ kind_name kind ++ codes "'s"
-IsProblemText kind NotRead text = text ≡ codes ": can't be read"
+IsProblemText kind (NotRead why) text = text ≡ codes ": " ++ refusal_text why
 IsProblemText kind (Elf error) text = text ≡ codes ": " ++ elf_error_text error
 IsProblemText kind (Pe error) text = text ≡ codes ": " ++ pe_error_text error
 

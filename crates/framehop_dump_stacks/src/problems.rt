@@ -202,7 +202,10 @@ fn problem_text(alloc: Global, kind: Kind, problem: FileProblem) -> Result<Strin
     ensures { IfOk result (λ text. IsProblemText kind problem (string_bytes text)) }
 {
     match problem {
-        FileProblem::NotRead => String::from_str(alloc, ": can't be read"),
+        FileProblem::NotRead(refusal) => {
+            let refusal = refusal.text();
+            format!(in alloc; ": {refusal}")
+        }
         FileProblem::OtherBuildId => {
             let kind = kind_name(kind);
             format!(in alloc; ": its build id is not the {kind}'s")

@@ -3,7 +3,7 @@ use Rattle.std.specs.Prelude.{ℕ, ◌-◌, Bool, ◌||◌, ◌&&◌, nat_le, na
 use Rattle.std.specs.Option.{option_or}
 use Rattle.framehop_processes.specs.declared.mapping.Mapping.{Mapping}
 use Rattle.framehop_signal.specs.Trampoline.{is_trampoline}
-use Rattle.framehop_symbols.specs.Code.{code_at, is_mapped}
+use Rattle.framehop_symbols.specs.Code.{code_at, is_mapped, is_at_entry}
 use Rattle.framehop_symbols.specs.Place.{PlaceView, in_function, in_unnamed, in_file, unmapped, place_at}
 use Rattle.framehop_symbols.specs.declared.files.Files.{Files}
 use Rattle.framehop_backtrace.specs.Call.{passes}
@@ -40,4 +40,5 @@ code_of known is_code files mappings = record {
   is_executable = λ address. is_mapped mappings address || is_code address;
   is_trampoline = λ address. passes is_trampoline (bytes_from known files mappings address);
   start_of = λ address. start_in address (place_at files mappings address);
+  is_entry = is_at_entry files mappings;
 }

@@ -5,6 +5,7 @@ use Rattle.framehop_elf.specs.declared.decompressed.ContentsError.{ContentsError
 use Rattle.framehop_frames.specs.Line.{plain}
 use Rattle.framehop_pe_file.specs.ErrorText.{pe_error_text}
 use Rattle.framehop_symbols.specs.FramesText.{IsFramesText}
+use Rattle.framehop_symbols.specs.ReadRefusal.{refusal_text}
 use Rattle.framehop_symbols.specs.declared.code_map.CodeMap.{CodeMap}
 use Rattle.framehop_symbols.specs.declared.files.Files.{Files}
 use Rattle.framehop_symbols.specs.declared.files.NamedFile.{NamedFile}
@@ -12,9 +13,9 @@ use Rattle.framehop_symbols.specs.declared.object_file.ObjectFile.{ObjectFile}
 use Rattle.framehop_symbols.specs.declared.object_file.FileProblem.{FileProblem}
 use Rattle.framehop_symbols.specs.declared.object_file.FileProblem.TheVariants.{NotRead, Elf, Pe, OtherBuildId}
 
--- Why nothing was read of a file: it is not there, it is another one, or its reader's reason, as that prints itself.
+-- Why nothing was read of a file: it is not given, it is another one, or its reader's reason, as that prints itself.
 abbrev pub IsProblemText : FileProblem → List ℕ → Type 0
-IsProblemText NotRead text = text ≡ codes "can't be read"
+IsProblemText (NotRead why) text = text ≡ refusal_text why
 IsProblemText OtherBuildId text = text ≡ codes "its build id is not the recording's"
 IsProblemText (Elf error) text = text ≡ elf_error_text error
 IsProblemText (Pe error) text = text ≡ pe_error_text error

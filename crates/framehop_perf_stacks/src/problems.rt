@@ -57,7 +57,7 @@ fn problem_text(alloc: Global, problem: FileProblem) -> Result<String, AllocErro
     ensures { IfOk result (λ text. IsProblemText problem (string_bytes text)) }
 {
     match problem {
-        FileProblem::NotRead => String::from_str(alloc, "can't be read"),
+        FileProblem::NotRead(refusal) => String::from_str(alloc, refusal.text()),
         FileProblem::OtherBuildId => {
             String::from_str(alloc, "its build id is not the recording's")
         }
