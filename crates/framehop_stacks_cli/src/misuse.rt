@@ -1,4 +1,7 @@
 //! Which options do not go together.
+ghost use Rattle.std.specs.Prelude.{◌≡◌, option_map};
+ghost use Rattle.framehop_stacks_cli.specs.Misuse.{misuse_of};
+
 use clap::ArgMatches;
 use framehop_perf_stacks::run::Options;
 
@@ -40,7 +43,9 @@ pub fn misuse_of_options(matches: &ArgMatches<'_>, options: Options<'_>) -> Opti
 }
 
 /// Returns the first of the texts of options that do not go together, if some do not.
-fn misuse_of(given: Given) -> Option<&'static str> {
+fn misuse_of(given: Given) -> Option<&'static str>
+    ensures { option_map (λ text. text.now) result ≡ misuse_of given }
+{
     if given.demangle {
         Some(
             "names are demangled by c++filt: framehop-stacks FILE.. | c++filt, and for a picture | framehop-stacks --svg -",

@@ -2,6 +2,7 @@
 use framehop_disk::disk::{Disk, read_perf_map};
 use framehop_perf_stacks::perf_map::MapSource;
 use framehop_symbols::files::FileSource;
+use framehop_symbols::read_refusal::ReadRefusal;
 use std::alloc::AllocError;
 
 /// The files of a disk, and the maps that JIT compilers write.
@@ -20,7 +21,11 @@ impl FileSource for Sources<'_, '_> {
       gives_debug = λ name build_id link given. Unit {0};
     } };
 
-    fn read_file(&self, name: &[u8], build_id: &[u8]) -> Result<Option<Vec<u8>>, AllocError> {
+    fn read_file(
+        &self,
+        name: &[u8],
+        build_id: &[u8],
+    ) -> Result<Result<Vec<u8>, ReadRefusal>, AllocError> {
         self.disk.read_file(name, build_id)
     }
 

@@ -1,0 +1,2 @@
+-- What the contracts of this crate cite: which options do not go together.
+pub mod Misuse
