@@ -188,7 +188,7 @@ def counted(count, unsure):
 
 
 work.joinpath("files.folded").write_text("app;[frame-pointer-0];1099+0x8 1\n")
-work.joinpath("files.errors").write_text("".join(f"/srv/{at:04}: can't be read\n" for at in range(1100)) + counted(1, 0))
+work.joinpath("files.errors").write_text("".join(f"/srv/{at:04}: there is no such file\n" for at in range(1100)) + counted(1, 0))
 lines = sorted(f"app;[frame-pointer-0];app+0x{0x10000 + 4 * at:x} 1\n" for at in range(70000))
 work.joinpath("lines.folded").write_text("".join(lines))
 name = "x" * 60000
@@ -199,7 +199,7 @@ named = [("first", 3), ("later", 2), ("perf-300.map+0x1800", 1)]
 work.joinpath("jit.folded").write_text(
     "other;[frame-pointer-0];[anon:jit]+0x8 1\n" + "".join(f"{within}{name} {count}\n" for name, count in named)
 )
-app, left_out = "/srv/app: can't be read\n", "perf-300.map: lines that are left out, since they are not START SIZE NAME: 2\n"
+app, left_out = "/srv/app: there is no such file\n", "perf-300.map: lines that are left out, since they are not START SIZE NAME: 2\n"
 work.joinpath("jit.errors").write_text(app + left_out + counted(7, 6))
 # without the map each is named by its place
 places = [("anon+0x10", 2), ("anon+0x1800", 1), ("anon+0x80", 1), ("anon+0xdf", 1), ("anon+0xe0", 1)]
@@ -209,10 +209,10 @@ work.joinpath("no-jit.folded").write_text(
 )
 work.joinpath("long.folded").write_text(f"app;[frame-pointer-0];{cut}+0x1203;{cut}+0x1124 1\n")
 unopened = f"framehop-stacks: ./srv/{name[:2042]}...: File name too long (os error 36)\n"
-work.joinpath("long.errors").write_text(unopened + f"/srv/{name[:2043]}...: can't be read\n" + counted(1, 1))
+work.joinpath("long.errors").write_text(unopened + f"/srv/{name[:2043]}...: it can't be read\n" + counted(1, 1))
 work.joinpath("build_ids.folded").write_text("app;[frame-pointer-0];app+0x1203;app+0x1124 1\n")
-work.joinpath("build_ids.errors").write_text("/srv/app: can't be read\n" + counted(1, 1))
-work.joinpath("lines.errors").write_text("/srv/app: can't be read\n" + counted(70000, 0))
+work.joinpath("build_ids.errors").write_text("/srv/app: there is no such file\n" + counted(1, 1))
+work.joinpath("lines.errors").write_text("/srv/app: there is no such file\n" + counted(70000, 0))
 work.joinpath("deep.folded").write_text("app;[limit];" + "app+0x1203;" * 511 + "app+0x1124 1\n")
 END
 python3 "$checks/stacks/summary.py" "$checks/stacks/tiny.frames" >"$work/tiny.summary" || exit 1
@@ -271,9 +271,9 @@ printf '%s\n' 'app 100/100 20:' '10124 [unknown] (/srv/app+0x1124)' '10204 [unkn
     '10300 [unknown] (/srv/app+0x1300) [frame-pointer]' '[cannot-access-memory 70000028]' '' 'app 100/100 30:' '10124 [unknown] (/srv/app+0x1124)' \
     '[cannot-access-memory 6ffffff8]' '' 'app 100/100 40:' '10124 [unknown] (/srv/app+0x1124)' '[cannot-access-memory 70010000]' '' >"$work/full.blocks"
 printf '%s\n' 'app;[frame-pointer-0];app+0x1203;[vdso]+0x24 1' "$whole 1" >"$work/vdso.folded"
-printf '%s\n' "/srv/app: can't be read" '2 samples, 0 records lost by the kernel' '2 samples with frames that no unwind data tells' 'how the stacks ended:' \
+printf '%s\n' "/srv/app: there is no such file" '2 samples, 0 records lost by the kernel' '2 samples with frames that no unwind data tells' 'how the stacks ended:' \
     'frame-pointer-0 2' '1 sample with a frame in [vdso], of which no file was found: --vdso FILE names it' >"$work/vdso.errors"
-printf '%s\n' "/srv/app: can't be read" '4 samples, 0 records lost by the kernel' '2 samples with frames that no unwind data tells' 'how the stacks ended:' \
+printf '%s\n' "/srv/app: there is no such file" '4 samples, 0 records lost by the kernel' '2 samples with frames that no unwind data tells' 'how the stacks ended:' \
     'cannot-access-memory 3' 'frame-pointer-0 1' '1 sample cut at the end of the copied stack: perf record --call-graph dwarf,65528 copies more' >"$work/full.errors"
 printf '%s\n' "$whole 1" >"$work/first"
 printf '%s\n' 'app;[frame-pointer-0];app+0x1203;app+0x1128 1' >"$work/second"
@@ -283,7 +283,7 @@ printf '%s\n' "$whole 1" 'app;[frame-pointer-0];app+0x1203;app+0x1128 2' >"$work
 printf '%s\n' 'app-200/200;[frame-pointer-0];app+0x1203;app+0x1124 1' 'other-200/200;[frame-pointer-0];other+0x203;[unknown] 1' >"$work/threads"
 # what calls what in checks/stacks/uncovered.s; in mix the word at rsp + 40 of a sample's copy is in odd or in work
 printf 'uncovered;_start;run;%s\n' 'aligned 10' 'odd;mix 11' 'work;mix 12' >"$work/uncovered.folded"
-printf '%s: can'"'"'t be read\n' /usr/bin/env /usr/lib/x86_64-linux-gnu/{ld-linux-x86-64.so.2,libc.so.6} >"$work/uncovered.summary"
+printf '%s: there is no such file\n' /usr/bin/env /usr/lib/x86_64-linux-gnu/{ld-linux-x86-64.so.2,libc.so.6} >"$work/uncovered.summary"
 printf '%s\n' '33 samples, 0 records lost by the kernel' '33 samples with frames that no unwind data tells' \
     'how the stacks ended:' 'root 33' >>"$work/uncovered.summary"
 printf '%s\n' 'other;[frame-pointer-0];other+0x203;[unknown] 1' >"$work/other.folded"
@@ -376,9 +376,9 @@ for program in "$@"; do
     refused shared.dmp "names that share bytes: offset 21924"
     # what was missing, after the stacks
     try 0 "$checks/stacks/crash.stacks" "$work/nothing" --root . crash.core
-    try 0 "$checks/stacks/crash.missing" "$(lines "/usr/local/bin/crash: can't be read")" --root srv crash.core
+    try 0 "$checks/stacks/crash.missing" "$(lines "/usr/local/bin/crash: there is no such file")" --root srv crash.core
     try 0 "$checks/stacks/crash.stacks" "$(lines "the core file is cut short: it has 59392 of 61440 bytes")" --root . "$dumps/cut.core"
-    try 0 "$work/wow64.blocks" "$(lines "a 32-bit process of Windows (wow64): the stacks are its 64-bit ones, on which calls of the system run" "C:\judges\small.exe: no names of functions" "C:\Windows\System32\WoW64.dll: can't be read")" --root . "$dumps/wow64.dmp"
+    try 0 "$work/wow64.blocks" "$(lines "a 32-bit process of Windows (wow64): the stacks are its 64-bit ones, on which calls of the system run" "C:\judges\small.exe: no names of functions" "C:\Windows\System32\WoW64.dll: there is no such file")" --root . "$dumps/wow64.dmp"
     # JSON: the frames of the blocks, and wrong usage
     reported crash.core
     reported unlinked.core
@@ -386,16 +386,18 @@ for program in "$@"; do
     reported made-up.dmp
     reported small.dmp
     reported "$dumps/names.dmp"
-    # the build id that readelf -n has, and how far frames without names are from the starts of their FDEs
-    (cd "$data" && "$program" --root . --json crash.core 2>"$work/err") | python3 -c '
+    # the build id that readelf -n has, and how far frames of a file without names are from the starts of their FDEs
+    mkdir -p "$work/stripped/usr/local/bin" && strip -o "$work/stripped/usr/local/bin/crash" "$data/usr/local/bin/crash"
+    "$program" --root "$work/stripped" --json "$data/crash.core" 2>"$work/err" | python3 -c '
 import json, sys
 
 dump = json.load(sys.stdin)
 functions = [frame["function"] for frame in dump["threads"][0]["frames"]]
 module = dump["modules"][0]
 found = [module["build_id"], *((function["offset"], function["start"]) for function in functions if function["name"] is None)]
-assert found == ["cb47e4cd805ea4a5d817ed2970d18a00481898ad", ("0x4e", "0x401000"), ("0xb", "0x401055")], found
-assert module["path"].endswith("/data/usr/local/bin/crash") and module["debug_path"] is None, module' ||
+starts = [("0x4e", "0x401000"), ("0x9", "0x401061"), ("0x86", "0x40108a"), ("0xb", "0x401055")]
+assert found == ["cb47e4cd805ea4a5d817ed2970d18a00481898ad", *starts], found
+assert module["path"].endswith("/stripped/usr/local/bin/crash") and module["debug_path"] is None, module' ||
         { echo "$program: another build id or another start in the JSON of crash.core" >&2; failed=1; }
     # of recordings: of each stack and of each sample, also where a record is refused, and of call chains
     recorded "$data" --root . tiny.data
