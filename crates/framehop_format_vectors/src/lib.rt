@@ -1,4 +1,5 @@
-//! Worked examples of code analysis, and what only calls show of compact unwind info and of PE unwind info. The rules that
+//! Worked examples of registers, rules, code analysis and flame graphs, and what only calls show of compact unwind info and of
+//! PE unwind info. The rules that
 //! these two give, and what they refuse, are cases, in `checks/cases/rules`. This crate has only tests.
 #![tactic(auto)]
 
@@ -10,6 +11,8 @@ mod analysis_aarch64;
 mod analysis_x86_64;
 #[cfg(test)]
 mod columns;
+#[cfg(test)]
+mod flame_graph;
 #[cfg(test)]
 mod frames;
 #[cfg(test)]
@@ -25,12 +28,22 @@ mod pe;
 #[cfg(test)]
 mod real_code;
 #[cfg(test)]
+mod register_ordering;
+#[cfg(test)]
+mod registers;
+#[cfg(test)]
 mod remembered;
 #[cfg(test)]
 mod rows;
 #[cfg(test)]
 mod rules;
 #[cfg(test)]
+mod rules_aarch64;
+#[cfg(test)]
+mod rules_x86_64;
+#[cfg(test)]
 mod sections;
 #[cfg(test)]
 mod signal;
+#[cfg(test)]
+mod small_types;

@@ -4,6 +4,10 @@
 #[cfg(test)]
 mod asked_names;
 #[cfg(test)]
+mod backtrace;
+#[cfg(test)]
+mod command_line;
+#[cfg(test)]
 mod commands;
 #[cfg(test)]
 mod kinds;
@@ -15,6 +19,8 @@ mod library;
 mod mappings;
 #[cfg(test)]
 mod paths;
+#[cfg(test)]
+mod program;
 #[cfg(test)]
 mod proved_caller;
 #[cfg(test)]

@@ -1,7 +1,7 @@
 //! A stack of aarch64, with pointer authentication.
-use crate::dump::{CODE_SIZE, Dump, STACK, dump_of, file_of};
-use crate::traces::{ColumnRow, FrameRow, frame_row, has_columns, is_trace};
-use crate::unwinders::{LentAarch64, sections_of, unwinder_aarch64};
+use crate::backtrace::dump::{CODE_SIZE, Dump, STACK, dump_of, file_of};
+use crate::backtrace::traces::{ColumnRow, FrameRow, frame_row, has_columns, is_trace};
+use crate::backtrace::unwinders::{LentAarch64, sections_of, unwinder_aarch64};
 use framehop::Unwinder;
 use framehop::aarch64::{CacheAarch64, PtrAuthMask, UnwindRegsAarch64};
 use framehop_backtrace::{BacktraceEnd, FoundBy, Frame, RowRoom, StackTrace, backtrace};

@@ -1,5 +1,5 @@
 //! Small flame graphs, with places and widths reckoned by hand, and colours by the FNV-1a of another program.
-use crate::folded::folded_of;
+use crate::flame_graph::folded::folded_of;
 use framehop_flame_graph::drawing::{Drawing, Layout};
 use framehop_flame_graph::svg::flame_graph;
 use std::alloc::Global;

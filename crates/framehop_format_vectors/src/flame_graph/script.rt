@@ -1,6 +1,6 @@
 //! The script of a picture.
-use crate::folded::folded_of;
-use crate::picture::PLAIN;
+use crate::flame_graph::folded::folded_of;
+use crate::flame_graph::picture::PLAIN;
 use framehop_flame_graph::drawing::Drawing;
 use framehop_flame_graph::script::ZOOM_AND_SEARCH;
 use framehop_flame_graph::svg::flame_graph;

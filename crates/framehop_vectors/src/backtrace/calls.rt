@@ -1,5 +1,5 @@
 //! Instructions by their bytes, as GNU's disassembler prints them, and whether they are calls.
-use crate::dump::{CODE, dump_of};
+use crate::backtrace::dump::{CODE, dump_of};
 use framehop_backtrace::call::{is_after_call_aarch64, is_after_call_x86_64};
 use std::alloc::{AllocError, Global};
 use std::test::Fail;

@@ -1,6 +1,6 @@
 //! A deep stack, and many stacks.
-use crate::folded::folded_of;
-use crate::picture::PLAIN;
+use crate::flame_graph::folded::folded_of;
+use crate::flame_graph::picture::PLAIN;
 use framehop_flame_graph::svg::flame_graph;
 use framehop_folded::folded::Folded;
 use std::test::Fail;

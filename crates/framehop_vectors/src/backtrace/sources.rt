@@ -1,8 +1,8 @@
 //! Rows of two sources: `.eh_frame`, and the `.debug_frame` of a file of its own.
-use crate::dump::{CODE_SIZE, dump_of, file_of};
-use crate::traces::{FrameRow, frame_row};
-use crate::unwinders::{LentX86_64, Sections, module_of, sections_of, unwinder_x86_64};
-use crate::x86_64::backtrace_in;
+use crate::backtrace::dump::{CODE_SIZE, dump_of, file_of};
+use crate::backtrace::traces::{FrameRow, frame_row};
+use crate::backtrace::unwinders::{LentX86_64, Sections, module_of, sections_of, unwinder_x86_64};
+use crate::backtrace::x86_64::backtrace_in;
 use framehop::unwind_by_data::Lookup;
 use framehop::x86_64::{UnwindRegsX86_64, UnwinderX86_64};
 use framehop::{Generations, Module, Unwinder};

@@ -1,7 +1,7 @@
 //! Stacks of x86_64.
-use crate::dump::{CODE_SIZE, Dump, dump_of, file_of};
-use crate::traces::{ColumnRow, FrameRow, frame_row, has_columns, is_trace};
-use crate::unwinders::{LentX86_64, sections_of, unwinder_x86_64};
+use crate::backtrace::dump::{CODE_SIZE, Dump, dump_of, file_of};
+use crate::backtrace::traces::{ColumnRow, FrameRow, frame_row, has_columns, is_trace};
+use crate::backtrace::unwinders::{LentX86_64, sections_of, unwinder_x86_64};
 use framehop::x86_64::{CacheX86_64, UnwindRegsX86_64, UnwinderX86_64};
 use framehop::{Generations, SectionBytes, Unwinder};
 use framehop_backtrace::x86_64::all_columns;

@@ -1,6 +1,6 @@
 //! Two runs beside one another: as text with two counts, and drawn.
-use crate::folded::folded_of;
-use crate::picture::{PLAIN, has_line};
+use crate::flame_graph::folded::folded_of;
+use crate::flame_graph::picture::{PLAIN, has_line};
 use framehop_flame_graph::svg::change_graph;
 use framehop_folded::changes::Changes;
 use std::alloc::Global;

@@ -1,7 +1,7 @@
 //! What a walk keeps of the rows that it finds.
-use crate::dump::{CODE_SIZE, dump_of, file_of};
-use crate::unwinders::{LentX86_64, sections_of, unwinder_x86_64};
-use crate::x86_64::{EH_FRAME, backtrace_in};
+use crate::backtrace::dump::{CODE_SIZE, dump_of, file_of};
+use crate::backtrace::unwinders::{LentX86_64, sections_of, unwinder_x86_64};
+use crate::backtrace::x86_64::{EH_FRAME, backtrace_in};
 use framehop::Generations;
 use framehop::x86_64::UnwindRegsX86_64;
 use framehop_backtrace::{BacktraceEnd, RowFinding, Rows};

@@ -1,7 +1,7 @@
 use Rattle.std.proofs.Common.{rules}
 use Rattle.framehop_core.specs.Memory.{memory_of_words}
 use Rattle.framehop_core.proofs.Callback.{AnswersAs-unchanged, Answering-over}
-use Rattle.framehop_core_vectors.proofs.rules_aarch64.exec_over_words.Goals as goal
+use Rattle.framehop_format_vectors.proofs.rules_aarch64.exec_over_words.Goals as goal
 
 pub returns-clause-answer : goal.returns-clause-answer
 returns-clause-answer c =

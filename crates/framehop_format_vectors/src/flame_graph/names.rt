@@ -1,5 +1,5 @@
 //! Names of frames: what XML asks for, what is not UTF-8, and what does not fit.
-use crate::picture::drawn;
+use crate::flame_graph::picture::drawn;
 use std::test::Fail;
 
 /// A name with each of the characters of XML, a tab, a byte that is no UTF-8, and U+FFFE.
