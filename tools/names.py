@@ -205,7 +205,12 @@ class Stacks:
     def print_dump(self, path):
         """Prints the blocks of a dump; for a picture the program says that there is none."""
         if self.command.has(*PICTURE):
-            self.run(*self.command.words(without=PICTURE), "--speedscope", path, out=subprocess.DEVNULL)
+            said = tempfile.TemporaryFile()
+            self.run(*self.command.words(without=PICTURE), "--speedscope", path, out=subprocess.DEVNULL, errors=said)
+            said.seek(0)
+            # (that nothing was counted is said of all files, where the picture is drawn)
+            sys.stderr.buffer.writelines(line for line in said if not line.endswith(b": nothing was counted\n"))
+            sys.stderr.flush()
             return
         blocks = Blocks(self.text(*self.command.words(), path))
         self.learn(blocks, path)
