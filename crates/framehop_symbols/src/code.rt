@@ -29,6 +29,16 @@ struct SegmentCode {
     size: u64,
 }
 
+/// The size of a file whose code is large, in bytes: 16 MiB.
+const LARGE: usize = 0x100_0000;
+
+impl FileCode {
+    /// Returns whether there is much code.
+    pub(crate) fn is_large(&self) -> bool {
+        self.file.len() >= LARGE
+    }
+}
+
 /// Returns the code of a process from an address (AVMA) on, as far as a segment of the mapped file has it, by mappings
 /// in order.
 pub fn code_at<'a>(files: &'a Files<'_>, mappings: &[Mapping], address: u64) -> Option<&'a [u8]>

@@ -145,7 +145,7 @@ impl<'m> Files<'m> {
         if self.numbers.get(name).is_some() {
             return Ok(());
         }
-        let file = load(alloc, source, name, build_id)?;
+        let file = load(alloc, &self.instructions, source, name, build_id)?;
         self.push(alloc, file)?;
         Ok(())
     }
@@ -222,7 +222,7 @@ impl<'m> Files<'m> {
         let Some(number) = self.left_out_number(name) else {
             return Ok(());
         };
-        self.list[number as usize] = load(alloc, source, name, build_id)?;
+        self.list[number as usize] = load(alloc, &self.instructions, source, name, build_id)?;
         Ok(())
     }
 
@@ -322,9 +322,10 @@ impl<'m> Files<'m> {
     }
 }
 
-/// Reads a file, if its name is a path or that of the vdso.
+/// Reads a file, if its name is a path or that of the vdso. Where it has much code, room is made for its instructions.
 fn load<'m, S: FileSource>(
     alloc: Global,
+    instructions: &KeptInstructions,
     source: &S,
     name: &[u8],
     build_id: &[u8],
@@ -340,7 +341,12 @@ fn load<'m, S: FileSource>(
     };
     if is_read(name) {
         match read_with_names(alloc, source, name, build_id) {
-            Ok(object) => file.object = Some(object),
+            Ok(object) => {
+                if object.has_large_code() {
+                    instructions.enlarge(alloc)?;
+                }
+                file.object = Some(object);
+            }
             Err(problem) => {
                 if problem.is_out_of_memory() {
                     return Err(AllocError);

@@ -282,6 +282,11 @@ impl<'m> ObjectFile<'m> {
         code_from(&self.code, svma)
     }
 
+    /// Returns whether the file has much code.
+    pub(crate) fn has_large_code(&self) -> bool {
+        self.code.is_large()
+    }
+
     /// Returns a module of the file that lies at no address.
     pub fn module(&self) -> &Module<MappedBytes<'m>>
         ensures { result.now ≡ self.now.«module» }
