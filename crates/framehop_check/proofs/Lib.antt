@@ -5,3 +5,6 @@ pub mod ContradictionLemmas
 pub mod QuietLemmas
 pub mod CountLemmas
 pub mod QuietExample
+pub mod MissingLemmas
+pub mod SectionLemmas
+pub mod EntryLemmas

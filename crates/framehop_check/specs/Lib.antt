@@ -1,4 +1,4 @@
--- What the contracts of this crate cite: what rows claim, what is known of the CFA, and what contradicts what.
+-- What the contracts of this crate cite: what rows claim, what code tells, what contradicts what, which code has no rows.
 pub mod Claim
 pub mod Known
 pub mod Rows
@@ -9,3 +9,6 @@ pub mod Contradiction
 pub mod Quiet
 pub mod Counts
 pub mod Prolog
+pub mod Missing
+pub mod Entries
+pub mod Sections

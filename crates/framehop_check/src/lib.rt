@@ -21,8 +21,11 @@
 
 pub mod check;
 pub mod claim;
+pub mod entries;
 pub mod known;
+pub mod missing;
 pub mod prolog;
 pub mod report;
 pub mod rows;
+pub mod sections;
 pub mod tracked;

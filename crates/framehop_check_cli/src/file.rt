@@ -3,12 +3,14 @@ use crate::allowed::Allowed;
 use crate::text::{push_alarm, push_note, push_summary};
 use framehop_bytes::bytes::{back, front};
 use framehop_bytes::string::string_at;
-use framehop_cfi::entry::{EntryHead, FrameDescriptionEntry, UnwindSection, UnwindSectionType};
-use framehop_cfi::extent::read_extent;
+use framehop_cfi::entry::{FrameDescriptionEntry, UnwindSection, UnwindSectionType};
 use framehop_cfi::pointer::BaseAddresses;
 use framehop_cfi::storage::StoreOnHeap;
 use framehop_check::check::Checker;
+use framehop_check::entries::{Entry, next_entry};
+use framehop_check::missing::Range;
 use framehop_check::report::{Counts, Report};
+use framehop_check::sections::{CodeSection, CodeSections};
 use framehop_code::aarch64::CodeAarch64;
 use framehop_code::effect::Code;
 use framehop_code::x86_64::CodeX86_64;
@@ -17,7 +19,7 @@ use framehop_elf::error::ElfError;
 use framehop_elf::header::{EM_AARCH64, EM_X86_64, read_file_header};
 use framehop_elf::section::{read_contents, read_section_names, section_by_name};
 use framehop_elf::section_header::{SectionHeader, read_section_headers};
-use framehop_elf::symbol::{SymbolTable, read_function_symbols, read_symbol_names};
+use framehop_elf::symbol::{Symbol, SymbolTable, read_function_symbols, read_symbol_names};
 use framehop_pe_file::error::PeError;
 use std::alloc::{AllocError, Global};
 use std::fmt;
@@ -35,6 +37,8 @@ pub struct Options {
     pub is_quiet: bool,
     /// Rows that begin inside instructions too.
     pub has_notes: bool,
+    /// Code without rows in the place of alarms.
+    pub is_missing: bool,
 }
 
 /// Why a file can't be checked.
@@ -54,6 +58,8 @@ pub enum Refusal {
     PeMachine,
     /// It is a PE file without a function table.
     NoFunctionTable,
+    /// It is a PE file, of which code without an entry is not listed.
+    PeMissing,
 }
 
 impl From<ElfError> for Refusal {
@@ -85,6 +91,10 @@ impl fmt::Display for Refusal {
             Refusal::Pe(error) => write!(f, "{error}"),
             Refusal::PeMachine => write!(f, "a PE file whose machine is not x86_64"),
             Refusal::NoFunctionTable => write!(f, "no function table"),
+            Refusal::PeMissing => write!(
+                f,
+                "a PE file: a function without an entry is a leaf, and wants none; --missing lists the code of ELF files"
+            ),
         }
     }
 }
@@ -112,9 +122,12 @@ fn check_opened(
     options: Options,
     allowed: &Allowed<'_>,
 ) -> Result<Checked, AllocError> {
-    let room = Room::new(size, opened.rows.contents.len());
+    let Some(rows) = &opened.rows else {
+        return Ok(Checked::Refused(Refusal::NoRows));
+    };
+    let room = Room::new(size, rows.contents.len());
     let mut findings = Findings::new(alloc, room);
-    if check_rows(alloc, opened, options, allowed, &mut findings)? {
+    if check_rows(alloc, opened, rows, options, allowed, &mut findings)? {
         findings.into_checked(path)
     } else {
         Ok(Checked::Refused(Refusal::Machine(opened.machine)))
@@ -125,16 +138,13 @@ fn check_opened(
 fn check_rows(
     alloc: Global,
     opened: &Opened<'_>,
+    rows: &Rows,
     options: Options,
     allowed: &Allowed<'_>,
     findings: &mut Findings,
 ) -> Result<bool, AllocError> {
-    let (parts, rows) = (&opened.parts, &opened.rows);
-    let bases = BaseAddresses {
-        eh_frame: rows.address,
-        ..BaseAddresses::default()
-    };
-    let section = UnwindSection::new(rows.contents.as_slice(), rows.kind, &bases);
+    let parts = &opened.parts;
+    let section = rows.section();
     match opened.machine {
         EM_X86_64 => {
             check_section::<CodeX86_64>(alloc, &section, parts, options, allowed, findings)?;
@@ -150,23 +160,34 @@ fn check_rows(
 
 /// What a file has to be checked by.
 #[derive(Drop)]
-struct Opened<'a> {
-    machine: u16,
-    parts: Parts<'a>,
-    rows: Rows,
+pub struct Opened<'a> {
+    pub machine: u16,
+    pub parts: Parts<'a>,
+    pub rows: Option<Rows>,
 }
 
 /// The section that has the rows.
 #[derive(Drop)]
-struct Rows {
+pub struct Rows {
     contents: Vec<u8>,
     /// Its first address (SVMA).
     address: u64,
     kind: UnwindSectionType,
 }
 
+impl Rows {
+    /// Returns the section.
+    pub fn section(&self) -> UnwindSection<'_> {
+        let bases = BaseAddresses {
+            eh_frame: self.address,
+            ..BaseAddresses::default()
+        };
+        UnwindSection::new(self.contents.as_slice(), self.kind, &bases)
+    }
+}
+
 /// Reads what a file has to be checked by.
-fn open(alloc: Global, file: &[u8]) -> Result<Opened<'_>, Refusal> {
+pub fn open(alloc: Global, file: &[u8]) -> Result<Opened<'_>, Refusal> {
     let header = read_file_header(file)?;
     let sections = read_section_headers(alloc, file, header)?;
     let names = read_section_names(file, header, sections.as_slice())?;
@@ -189,26 +210,27 @@ fn read_parts<'a>(
     let (symbols, strings) = read_symbols(alloc, file, sections, names)?;
     Ok(Parts {
         code: code_sections(alloc, file, sections)?,
-        symbols,
+        functions: function_ranges(alloc, &symbols)?,
+        symbols: SymbolTable::new(symbols)?,
         strings,
     })
 }
 
-/// Reads the section that has the rows.
+/// Reads the section that has the rows, if there is one.
 fn read_rows(
     alloc: Global,
     file: &[u8],
     sections: &[SectionHeader],
     names: &[u8],
-) -> Result<Rows, Refusal> {
+) -> Result<Option<Rows>, Refusal> {
     let Some((section, kind)) = rows_section(sections, names) else {
-        return Err(Refusal::NoRows);
+        return Ok(None);
     };
-    Ok(Rows {
+    Ok(Some(Rows {
         contents: read_decompressed(alloc, file, section)?,
         address: section.sh_addr,
         kind,
-    })
+    }))
 }
 
 /// What a check of a file gives.
@@ -221,20 +243,13 @@ pub enum Checked {
 
 /// The parts of a file that are needed.
 #[derive(Drop)]
-struct Parts<'a> {
-    /// In the order of their addresses.
-    code: Vec<CodeSection<'a>>,
+pub struct Parts<'a> {
+    pub code: CodeSections<'a>,
+    /// Where functions are, by their symbols.
+    pub functions: Vec<Range>,
     symbols: SymbolTable,
     /// The names of symbols.
     strings: &'a [u8],
-}
-
-/// A section of code.
-#[derive(Clone, Copy)]
-struct CodeSection<'a> {
-    /// Its first address (SVMA).
-    address: u64,
-    contents: &'a [u8],
 }
 
 /// Counts beside those of the report.
@@ -306,6 +321,11 @@ impl Findings {
         }
     }
 
+    /// Counts an entry that can't be read.
+    pub fn count_unreadable(&mut self) {
+        self.others.unreadable = self.others.unreadable.saturating_add(1);
+    }
+
     /// Returns the lines with the summary after them, and whether there are no alarms and each entry was read.
     pub fn into_checked(self, path: &str) -> Result<Checked, AllocError> {
         let counts: Counts = self.report.counts;
@@ -319,13 +339,24 @@ impl Findings {
     }
 }
 
+/// Returns where functions are.
+fn function_ranges(alloc: Global, symbols: &[Symbol]) -> Result<Vec<Range>, AllocError> {
+    symbols
+        .iter()
+        .map(|symbol| Range {
+            start: symbol.st_value,
+            end: symbol.st_value.saturating_add(symbol.size),
+        })
+        .collect(alloc)
+}
+
 /// Returns the symbols of a file's functions, and their names.
 fn read_symbols<'a>(
     alloc: Global,
     file: &'a [u8],
     sections: &[SectionHeader],
     names: &[u8],
-) -> Result<(SymbolTable, &'a [u8]), ElfError> {
+) -> Result<(Vec<Symbol>, &'a [u8]), ElfError> {
     let table = match section_by_name(sections, names, b".symtab") {
         Some(table) => Some(table),
         None => section_by_name(sections, names, b".dynsym"),
@@ -334,9 +365,9 @@ fn read_symbols<'a>(
         Some(table) => {
             let symbols = read_function_symbols(alloc, file, sections, table)?;
             let strings = read_symbol_names(file, sections, table)?;
-            Ok((SymbolTable::new(symbols)?, strings))
+            Ok((symbols, strings))
         }
-        None => Ok((SymbolTable::new(Vec::new(alloc))?, &[])),
+        None => Ok((Vec::new(alloc), &[])),
     }
 }
 
@@ -378,78 +409,50 @@ fn check_entries<C: Code>(
 ) -> Result<(), AllocError> {
     let mut at = 0;
     for _count in 0..section.bytes.len() {
-        if at >= section.bytes.len() {
-            return Ok(());
-        }
-        let Ok(extent) = read_extent(section.bytes, at) else {
-            findings.others.unreadable = findings.others.unreadable.saturating_add(1);
+        let Some(entry) = next_entry(section, &mut at) else {
             return Ok(());
         };
-        if extent.is_zero_length() && section.section_type == UnwindSectionType::EhFrame {
-            return Ok(());
+        match entry {
+            Entry::Fde(fde) => {
+                check_fde::<C>(checker, section, parts, &fde, options, allowed, findings)?;
+            }
+            Entry::Unreadable => findings.count_unreadable(),
+            Entry::Other => {}
         }
-        check_at::<C>(checker, section, parts, at, options, allowed, findings)?;
-        at = extent.end;
     }
     Ok(())
 }
 
-/// Checks the FDE at an offset, if one is there and the file has its code.
-fn check_at<C: Code>(
+/// Checks an FDE, if the file has its code.
+fn check_fde<C: Code>(
     checker: &mut Checker<StoreOnHeap>,
     section: &UnwindSection<'_>,
     parts: &Parts<'_>,
-    at: usize,
+    fde: &FrameDescriptionEntry,
     options: Options,
     allowed: &Allowed<'_>,
     findings: &mut Findings,
 ) -> Result<(), AllocError> {
-    match section.head_at(at) {
-        Ok(EntryHead::Fde { .. }) => {}
-        Ok(_) => return Ok(()),
-        Err(_) => {
-            findings.others.unreadable = findings.others.unreadable.saturating_add(1);
-            return Ok(());
-        }
-    }
-    let Ok(fde) = section.fde_from_offset(at) else {
-        findings.others.unreadable = findings.others.unreadable.saturating_add(1);
-        return Ok(());
-    };
-    let Some(code) = code_of(parts, &fde) else {
+    let Some(code) = parts.code.code_at(fde.initial_address, fde.address_range) else {
         findings.others.without_code = findings.others.without_code.saturating_add(1);
         return Ok(());
     };
-    if !findings.room.take(&fde, code.len()) {
+    if !findings.room.take(fde, code.len()) {
         findings.others.sharing = findings.others.sharing.saturating_add(1);
         return Ok(());
     }
     findings.report.alarms.clear();
     findings.report.notes.clear();
-    checker.check_function::<C>(section, &fde, code, &mut findings.report)?;
-    push_alarms::<C>(parts, &fde, code, options, allowed, findings)
+    checker.check_function::<C>(section, fde, code, &mut findings.report)?;
+    push_alarms::<C>(parts, fde, code, options, allowed, findings)
 }
 
-/// Returns the code of an FDE, if the nearest section that begins at or below its first address has all of it.
-fn code_of<'a>(parts: &Parts<'a>, fde: &FrameDescriptionEntry) -> Option<&'a [u8]> {
-    let later = parts
-        .code
-        .partition_point(|section| section.address <= fde.initial_address);
-    let section = parts.code.get(later.checked_sub(1)?)?;
-    let start = usize::try_from(fde.initial_address.checked_sub(section.address)?).ok()?;
-    let end = start.checked_add(usize::try_from(fde.address_range).ok()?)?;
-    if start >= section.contents.len() {
-        return None;
-    }
-    section.contents.get(start..end)
-}
-
-/// Returns the sections of code that a file has, in the order of their addresses.
+/// Returns the sections of code that a file has.
 fn code_sections<'a>(
     alloc: Global,
     file: &'a [u8],
     sections: &[SectionHeader],
-) -> Result<Vec<CodeSection<'a>>, AllocError> {
+) -> Result<CodeSections<'a>, AllocError> {
     let mut code = Vec::new(alloc);
     for section in sections {
         if section.sh_flags & SHF_EXECINSTR != 0
@@ -460,8 +463,7 @@ fn code_sections<'a>(
             code.push(CodeSection { address, contents })?;
         }
     }
-    code.sort_by_key(|section| section.address)?;
-    Ok(code)
+    CodeSections::new(code)
 }
 
 /// Appends the alarms of the function that was checked last.
@@ -498,7 +500,7 @@ fn push_alarms<C: Code>(
 }
 
 /// Returns the name of the function at an address (SVMA), and where the function begins.
-fn name_of<'a>(parts: &Parts<'a>, address: u64) -> Option<(&'a str, u64)> {
+pub fn name_of<'a>(parts: &Parts<'a>, address: u64) -> Option<(&'a str, u64)> {
     let symbol = parts.symbols.symbol_for(address)?;
     let string = front(back(parts.strings, u64::from(symbol.st_name)), LONGEST_NAME);
     match str::from_utf8(string_at(string, 0)) {

@@ -3,6 +3,7 @@
 
 mod allowed;
 mod file;
+mod missing;
 mod pe_file;
 mod text;
 
@@ -12,6 +13,7 @@ use file::{Checked, Options, Refusal, check_file};
 use framehop_cli::{Failure, Result, exit_code, print_text, read_or_tell, tell, usage};
 use framehop_elf::error::ElfError;
 use framehop_pe_file::error::PeError;
+use missing::list_missing;
 use pe_file::{check_pe_file, is_pe};
 use std::alloc::{AllocError, Global};
 use std::env;
@@ -46,6 +48,7 @@ fn command<'a>(alloc: Global) -> Result<Command<'a>> {
         .arg(quiet(alloc))?
         .arg(notes(alloc))?
         .arg(allow(alloc))?
+        .arg(lists_missing(alloc)?)?
         .arg(files(alloc))?;
     Ok(command)
 }
@@ -76,6 +79,17 @@ fn allow<'a>(alloc: Global) -> Arg<'a> {
         .action(ArgAction::Set)
 }
 
+/// Returns the option by which code without rows is listed.
+fn lists_missing<'a>(alloc: Global) -> Result<Arg<'a>> {
+    let missing = Arg::new(alloc, "missing")
+        .long("missing")
+        .help("List the code that no FDE covers, in the place of alarms")
+        .action(ArgAction::SetTrue)
+        .conflicts_with("notes")?
+        .conflicts_with("allow")?;
+    Ok(missing)
+}
+
 /// Returns the argument that names the files.
 fn files<'a>(alloc: Global) -> Arg<'a> {
     Arg::new(alloc, "file")
@@ -102,6 +116,7 @@ fn check_paths(rt: &HostRuntime, matches: &ArgMatches<'_>, allowed: &Allowed<'_>
     let options = Options {
         is_quiet: matches.get_flag("quiet"),
         has_notes: matches.get_flag("notes"),
+        is_missing: matches.get_flag("missing"),
     };
     let mut status = 0;
     for path in matches.get_strs("file").unwrap_or(&[]) {
@@ -144,10 +159,11 @@ fn check_bytes(
     options: Options,
     allowed: &Allowed<'_>,
 ) -> Result<Checked, AllocError> {
-    if is_pe(bytes) {
-        check_pe_file(alloc, path, bytes, options)
-    } else {
-        check_file(alloc, path, bytes, options, allowed)
+    match (is_pe(bytes), options.is_missing) {
+        (true, true) => Ok(Checked::Refused(Refusal::PeMissing)),
+        (true, false) => check_pe_file(alloc, path, bytes, options),
+        (false, true) => list_missing(alloc, path, bytes, options),
+        (false, false) => check_file(alloc, path, bytes, options, allowed),
     }
 }
 

@@ -106,7 +106,7 @@ fn check_entry(
     findings: &mut Findings,
 ) -> Result<(), AllocError> {
     let Some(info) = info_at(image, function.unwind_info_address) else {
-        findings.others.unreadable = findings.others.unreadable.saturating_add(1);
+        findings.count_unreadable();
         return Ok(());
     };
     let Some(code) = code_of(image, function) else {

@@ -1,5 +1,7 @@
 //! The lines of the report.
 use crate::file::Others;
+use crate::missing::Sizes;
+use framehop_check::missing::{Range, share};
 use framehop_check::report::{Alarm, Counts};
 use framehop_check::tracked::Fault;
 use framehop_cli::Printed;
@@ -97,6 +99,44 @@ fn push_place(
             write!(out, "0x{start:x}+0x{distance:x}: ")
         }
     }
+}
+
+/// Appends the line of a range of code that no FDE covers: its addresses, its size, and the function that it begins in.
+pub fn push_missing(
+    name: Option<(&str, u64)>,
+    range: Range,
+    out: &mut String,
+) -> Result<(), AllocError> {
+    let Range { start, end } = range;
+    write!(out, "0x{start:x}-0x{end:x} {}", range.size())?;
+    if let Some((name, begin)) = name {
+        write!(out, " {}", Printed(name))?;
+        let distance = start.wrapping_sub(begin);
+        if distance != 0 {
+            write!(out, "+0x{distance:x}")?;
+        }
+    }
+    out.push_str("\n")
+}
+
+/// Appends how much of a file's code has rows, has none, and is padding.
+pub fn push_shares(path: &str, sizes: Sizes, out: &mut String) -> Result<(), AllocError> {
+    let code = sizes.code;
+    write!(out, "{}: {code} bytes of code, ", Printed(path))?;
+    push_share(code.saturating_sub(sizes.missing), code, "with rows", out)?;
+    out.push_str(", ")?;
+    push_share(sizes.listed, code, "without", out)?;
+    out.push_str(", ")?;
+    let padding = sizes.missing.saturating_sub(sizes.listed);
+    push_share(padding, code, "of padding", out)?;
+    push_count(sizes.unreadable, "entries unreadable", out)?;
+    out.push_str("\n")
+}
+
+/// Appends a part of the code, in bytes and in percent.
+fn push_share(part: u64, code: u64, what: &str, out: &mut String) -> Result<(), AllocError> {
+    let tenths = share(part, code);
+    write!(out, "{part} {what} ({}.{} %)", tenths / 10, tenths % 10)
 }
 
 /// Appends the summary of a file.

@@ -1,0 +1,105 @@
+//! The list of a file's code that no FDE covers.
+use crate::file::{Checked, Opened, Options, Parts, Refusal, name_of, open};
+use crate::text::{push_missing, push_shares};
+use framehop_check::entries::{Covered, read_covered};
+use framehop_check::missing::{Range, add_bounds, bytes_in, missing_ranges};
+use framehop_check::sections::without_padding;
+use framehop_code::aarch64::CodeAarch64;
+use framehop_code::effect::Code;
+use framehop_code::x86_64::CodeX86_64;
+use framehop_elf::header::{EM_AARCH64, EM_X86_64};
+use std::alloc::{AllocError, Global};
+
+/// How many bytes of code a file has.
+#[derive(Clone, Copy)]
+pub struct Sizes {
+    /// All of it.
+    pub code: u64,
+    /// What no FDE covers.
+    pub missing: u64,
+    /// What is listed of that, without padding.
+    pub listed: u64,
+    /// Entries that can't be read.
+    pub unreadable: u64,
+}
+
+/// Returns the lines for the code of an ELF file that no FDE covers, and whether each entry was read, or why it can't be read.
+pub fn list_missing(
+    alloc: Global,
+    path: &str,
+    file: &[u8],
+    options: Options,
+) -> Result<Checked, AllocError> {
+    match open(alloc, file) {
+        Ok(opened) => match opened.machine {
+            EM_X86_64 => list_opened::<CodeX86_64>(alloc, path, &opened, options),
+            EM_AARCH64 => list_opened::<CodeAarch64>(alloc, path, &opened, options),
+            machine => Ok(Checked::Refused(Refusal::Machine(machine))),
+        },
+        Err(refusal) => Ok(Checked::Refused(refusal)),
+    }
+}
+
+/// Returns the lines for the code of a file that no FDE covers.
+fn list_opened<C: Code>(
+    alloc: Global,
+    path: &str,
+    opened: &Opened<'_>,
+    options: Options,
+) -> Result<Checked, AllocError> {
+    let parts = &opened.parts;
+    let mut covered = covered(alloc, opened)?;
+    let code = parts.code.ranges(alloc)?;
+    add_bounds(&mut covered.ranges, &code)?;
+    add_bounds(&mut covered.ranges, &parts.functions)?;
+    let unreadable = covered.unreadable;
+    let missing = missing_ranges(alloc, code, covered.ranges)?;
+    let listed = without_padding::<C>(alloc, &parts.code, &missing)?;
+    let sizes = Sizes {
+        code: code_size(alloc, parts)?,
+        missing: bytes_in(&missing),
+        listed: bytes_in(&listed),
+        unreadable,
+    };
+    text_of(alloc, path, parts, &listed, sizes, options)
+}
+
+/// Returns what the FDEs of a file cover.
+fn covered(alloc: Global, opened: &Opened<'_>) -> Result<Covered, AllocError> {
+    match &opened.rows {
+        Some(rows) => read_covered(alloc, &rows.section()),
+        None => Ok(Covered {
+            ranges: Vec::new(alloc),
+            unreadable: 0,
+        }),
+    }
+}
+
+/// Returns how many bytes of code a file has; those that two sections have count once.
+fn code_size(alloc: Global, parts: &Parts<'_>) -> Result<u64, AllocError> {
+    let code = parts.code.ranges(alloc)?;
+    let all = missing_ranges(alloc, code, Vec::new(alloc))?;
+    Ok(bytes_in(&all))
+}
+
+/// Returns the lines for these ranges, and the summary.
+fn text_of(
+    alloc: Global,
+    path: &str,
+    parts: &Parts<'_>,
+    listed: &[Range],
+    sizes: Sizes,
+    options: Options,
+) -> Result<Checked, AllocError> {
+    let mut text = String::new(alloc);
+    if !options.is_quiet {
+        for range in listed {
+            push_missing(name_of(parts, range.start), *range, &mut text)?;
+        }
+    }
+    push_shares(path, sizes, &mut text)?;
+    Ok(Checked::Text {
+        text,
+        is_good: sizes.unreadable == 0,
+    })
+}
