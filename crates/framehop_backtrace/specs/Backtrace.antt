@@ -1,13 +1,15 @@
 -- A backtrace: the frames of a stack, each with its registers and how it was found.
-use Rattle.std.specs.Prelude.{ℕ, zero, suc, Bool, true, false, ◌==◌, ◌&&◌, if◌then◌else◌, List, [], ◌∷◌, map, Option, Some, None, option_and_then, unwrap_or, Result, Ok, Err}
+use Rattle.std.specs.Prelude.{ℕ, zero, suc, Bool, true, false, not, ◌==◌, ◌&&◌, if◌then◌else◌, List, [], ◌∷◌, map, Option, Some, None, option_and_then, unwrap_or, Result, Ok, Err}
 use Rattle.framehop_core.specs.CodeAddress.{FrameLocation, address_of, lookup_address, at_instruction_pointer, at_return_address, is_first_frame, location_of}
 use Rattle.framehop_core.specs.Memory.{Memory}
 use Rattle.framehop_core.specs.Outcome.{Outcome, answer_of, registers_after}
 use Rattle.framehop_core.specs.declared.error.Error.{Error}
 use Rattle.framehop_core.specs.declared.error.Error.TheVariants.{ReturnAddressIsNull}
-use Rattle.framehop_cfi.specs.Row.{Row}
+use Rattle.framehop_cfi.specs.Row.{Row, rule_of}
+use Rattle.framehop_cfi.specs.declared.rule.RegisterRule.{RegisterRule}
+use Rattle.framehop_cfi.specs.declared.rule.RegisterRule.TheVariants as rule
 use Rattle.framehop_columns.specs.Caller.{caller_column, step_of}
-use Rattle.framehop_columns.specs.Convention.{stack_pointer_of}
+use Rattle.framehop_columns.specs.Convention.{stack_pointer_of, return_address_of}
 use Rattle.framehop_columns.specs.Rules.{Source}
 use Rattle.framehop_columns.specs.declared.caller.RowRefusal.{RowRefusal}
 use Rattle.framehop_columns.specs.declared.caller.RowRefusal.TheVariants as refusal
@@ -261,19 +263,26 @@ abbrev pub caller_or : {Regs : Type 0} → Option (FrameView Regs) → Next Regs
 caller_or (Some caller) other = Ok caller
 caller_or None other = other
 
--- what a row needs is not known
-abbrev pub is_unknown : BacktraceEnd → Bool
-is_unknown CfaUnknown = true
-is_unknown ReturnAddressUnknown = true
-is_unknown Root = false
-is_unknown FramePointerZero = false
-is_unknown Limit = false
-is_unknown SignalFrameUnread = false
-is_unknown DidNotAdvance = false
-is_unknown RegistersUnknown = false
-is_unknown (Refused error) = false
-is_unknown NoCaller = false
-is_unknown (NotCode address) = false
+-- a row has the return address in memory, at a distance from the CFA
+abbrev pub is_stored : Option RegisterRule → Bool
+is_stored (Some (rule.Offset offset)) = true
+is_stored (Some other) = false
+is_stored None = false
+
+-- What a row needs is not known, and a run may tell it: all but the word in which the return address is stored, which a
+-- run would read, too.
+abbrev pub is_unknown : Bool → BacktraceEnd → Bool
+is_unknown stored CfaUnknown = true
+is_unknown stored ReturnAddressUnknown = not stored
+is_unknown stored Root = false
+is_unknown stored FramePointerZero = false
+is_unknown stored Limit = false
+is_unknown stored SignalFrameUnread = false
+is_unknown stored DidNotAdvance = false
+is_unknown stored RegistersUnknown = false
+is_unknown stored (Refused error) = false
+is_unknown stored NoCaller = false
+is_unknown stored (NotCode address) = false
 
 -- a frame with the registers that a run of its callee's code knows, where that comes to the frame
 abbrev pub completed : {Regs : Type 0} → Machine Regs → RunSource → Option (FrameView Regs) → FrameView Regs → FrameView Regs
@@ -287,9 +296,9 @@ found_or (Ok frame) other = Ok frame
 found_or (Err end) other = other
 
 -- by a row, or where what it needs is not known by the row over more registers, or else by a run
-abbrev pub row_or : {Regs : Type 0} → Next Regs → Option (FrameView Regs) → Next Regs → Next Regs
-row_or again run (Ok frame) = Ok frame
-row_or again run (Err end) = if is_unknown end then found_or again (caller_or run (Err end)) else Err end
+abbrev pub row_or : {Regs : Type 0} → Bool → Next Regs → Option (FrameView Regs) → Next Regs → Next Regs
+row_or stored again run (Ok frame) = Ok frame
+row_or stored again run (Err end) = if is_unknown stored end then found_or again (caller_or run (Err end)) else Err end
 
 -- a stack: its machine; what a step of the library does, and whether PE or compact unwind info unwinds a frame; the
 -- rows of the modules, and which functions their unwind data covers; the memory and the code
@@ -320,7 +329,7 @@ module _ {Regs : Type 0} (stack : Stack Regs) (callee : Option (FrameView Regs))
   -- by what the modules have for the frame
   abbrev pub by_finding : Finding → Next Regs
   by_finding (by_row section row) =
-      row_or
+      row_or (is_stored (rule_of row.rules (record { 0 = return_address_of stack.machine.convention })))
       (by_row_of stack.machine stack.code stack.memory stack.covers
       (completed stack.machine (run_source stack.memory stack.code stack.covers) callee frame) section row)
       (by_run stack.machine stack.code frame (run_source stack.memory stack.code stack.covers))

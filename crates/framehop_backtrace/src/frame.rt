@@ -1,8 +1,9 @@
 //! Frames of a backtrace, and how it ends.
 ghost use Rattle.std.specs.Prelude.{◌≡◌};
 ghost use Rattle.framehop_core.specs.CodeAddress.{at_instruction_pointer};
-ghost use Rattle.framehop_backtrace.specs.Backtrace.{frame_view, end_of_refusal, is_unknown, root_of};
+ghost use Rattle.framehop_backtrace.specs.Backtrace.{frame_view, end_of_refusal, is_stored, is_unknown, root_of};
 
+use framehop_cfi::rule::RegisterRule;
 use framehop_columns::caller::RowRefusal;
 use framehop_columns::register_file::RegisterFile;
 use framehop_core::{Error, FrameAddress};
@@ -109,12 +110,25 @@ pub(crate) fn end_of_refusal(refusal: RowRefusal) -> BacktraceEnd
     }
 }
 
-/// Returns whether a row has this end since what it needs isn't known.
-pub(crate) fn is_unknown(end: BacktraceEnd) -> bool
-    ensures { result ≡ is_unknown end }
+/// Returns whether a row has the return address in memory, by its rule for that.
+pub(crate) fn is_stored(rule: Option<RegisterRule>) -> bool
+    ensures { result ≡ is_stored rule }
+{
+    match rule {
+        Some(RegisterRule::Offset(_)) => true,
+        Some(_) => false,
+        None => false,
+    }
+}
+
+/// Returns whether a row has this end since it needs what isn't known and a run may tell: all but the word in which the
+/// return address is stored, which a run would read, too.
+pub(crate) fn is_unknown(is_stored: bool, end: BacktraceEnd) -> bool
+    ensures { result ≡ is_unknown is_stored end }
 {
     match end {
-        BacktraceEnd::CfaUnknown | BacktraceEnd::ReturnAddressUnknown => true,
+        BacktraceEnd::CfaUnknown => true,
+        BacktraceEnd::ReturnAddressUnknown => !is_stored,
         BacktraceEnd::Root
         | BacktraceEnd::FramePointerZero
         | BacktraceEnd::Limit

@@ -1,5 +1,7 @@
 //! The caller of a frame.
 ghost use Rattle.std.specs.Prelude.{◌≡◌, ◌≢◌, ◌⊎◌, None, option_map, IfOk, IfErr, OnErr, Err, MatchBool, true, length};
+ghost use Rattle.framehop_cfi.specs.Row.{rule_of};
+ghost use Rattle.framehop_columns.specs.Convention.{return_address_of};
 ghost use Rattle.framehop_core.specs.CodeAddress.{FrameLocation, location_of, is_first_frame};
 ghost use Rattle.framehop_core.specs.Outcome.{HasDone};
 ghost use Rattle.framehop.specs.Modules.{UnwinderView};
@@ -9,9 +11,9 @@ ghost use Rattle.framehop_backtrace.specs.Rows.{Finding, IsRow, finding_of};
 ghost use Rattle.framehop_backtrace.specs.Kept.{AreFound, kept_rows};
 ghost use Rattle.framehop_backtrace.specs.Columns.{returned_to};
 ghost use Rattle.framehop_backtrace.specs.Covers.{is_covered};
-ghost use Rattle.framehop_backtrace.specs.Backtrace.{frame_view, moved_to, by_signal, by_row_of, restored_columns, returned_as, stepped, is_by_frame_pointer, has_no_frame_pointer, end_of_error, end_without_caller, guessed, by_library, by_guess, by_start, without_row, run_source, by_run, caller_or, completed, row_or, by_finding, end_at_entry, at_entry, has_set_from, stack_of, next_of};
+ghost use Rattle.framehop_backtrace.specs.Backtrace.{frame_view, moved_to, by_signal, by_row_of, restored_columns, returned_as, stepped, is_by_frame_pointer, has_no_frame_pointer, end_of_error, end_without_caller, guessed, by_library, by_guess, by_start, without_row, run_source, by_run, caller_or, completed, is_stored, row_or, by_finding, end_at_entry, at_entry, has_set_from, stack_of, next_of};
 
-use crate::frame::{BacktraceEnd, FoundBy, Frame, end_of_refusal, is_unknown, root_of};
+use crate::frame::{BacktraceEnd, FoundBy, Frame, end_of_refusal, is_stored, is_unknown, root_of};
 use crate::guess::{Evidence, evidence_of, prefers_frame_pointer};
 use crate::kept::{FoundRow, RowRoom};
 use crate::machine::{BacktraceUnwinder, known_or};
@@ -35,8 +37,9 @@ use std::alloc::{AllocError, Global};
 ///    code, where that comes to the same return address and stack pointer: after a `pop` the word is below the stack
 ///    pointer.
 /// 3. A frame of x86_64 that call frames of its module do not cover, or whose row needs a register or a word that isn't
-///    known, has its caller by running its code, if that returns to an address right after a call, or after code that
-///    nobody has. In a walk the row is first tried over the registers that a run of the callee's code knows.
+///    known, but for the word in which the return address is stored, has its caller by running its code, if that returns
+///    to an address right after a call, or after code that nobody has. In a walk the row is first tried over the registers
+///    that a run of the callee's code knows.
 /// 4. Else the library's step is taken, over the registers that it has. The rule of a function's start is a guess: its
 ///    return address is compared with that of the frame pointer, and taken unless that is likelier, or as likely in a
 ///    function that has set its frame pointer. Either must lie right
@@ -209,8 +212,8 @@ fn by_signal<U: BacktraceUnwinder, M: CodeMemory>(
     Ok(())
 }
 
-/// Makes a frame its caller by a row. Where what that needs isn't known: by the row over what a run of the callee's code
-/// knows, or else by running the frame's code.
+/// Makes a frame its caller by a row. Where what that needs isn't known, but for the word in which the return address is
+/// stored: by the row over what a run of the callee's code knows, or else by running the frame's code.
 fn by_row_or_run<U: BacktraceUnwinder, M: CodeMemory, S: UnwindContextStorage>(
     alloc: Global,
     unwinder: &U,
@@ -221,6 +224,7 @@ fn by_row_or_run<U: BacktraceUnwinder, M: CodeMemory, S: UnwindContextStorage>(
     frame: &mut Frame<U::UnwindRegs>,
 ) -> Result<(), BacktraceEnd>
     ensures moved { moved_to result frame.new ≡ row_or
+        (is_stored (rule_of row.now.rules (record { 0 = return_address_of U.machine.convention })))
         (by_row_of U.machine (M.code memory.now) (M.memory memory.now) (is_covered (U.unwinder_view unwinder.now).modules)
         (completed U.machine (run_source (M.memory memory.now) (M.code memory.now) (is_covered (U.unwinder_view unwinder.now).modules))
         (option_map frame_view callee) (frame_view frame.old)) section.now row.now)
@@ -249,6 +253,7 @@ fn by_row_again<U: BacktraceUnwinder, M: CodeMemory, S: UnwindContextStorage>(
     end: BacktraceEnd,
 ) -> Result<(), BacktraceEnd>
     ensures moved { moved_to result frame.new ≡ row_or
+        (is_stored (rule_of row.now.rules (record { 0 = return_address_of U.machine.convention })))
         (by_row_of U.machine (M.code memory.now) (M.memory memory.now) (is_covered (U.unwinder_view unwinder.now).modules)
         (completed U.machine (run_source (M.memory memory.now) (M.code memory.now) (is_covered (U.unwinder_view unwinder.now).modules))
         (option_map frame_view callee) (frame_view frame.old)) section.now row.now)
@@ -257,7 +262,8 @@ fn by_row_again<U: BacktraceUnwinder, M: CodeMemory, S: UnwindContextStorage>(
         (Err end) }
     ensures ended { OnErr result (frame.new ≡ frame.old) }
 {
-    if !is_unknown(end) {
+    let is_stored = is_stored(row.register(U::convention().return_address()));
+    if !is_unknown(is_stored, end) {
         return Err(end);
     }
     let mut again = completed(unwinder, memory, callee, frame);

@@ -19,6 +19,7 @@
 //!   (`WordMemory`): nothing is written, so contracts need no premise on it.
 #![tactic(auto)]
 
+pub mod base;
 pub mod caller;
 pub mod convention;
 pub mod evaluation;

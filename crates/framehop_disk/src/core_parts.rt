@@ -1,5 +1,5 @@
 //! Core files of which only parts are read: the headers and the notes, and of memory what is asked for.
-use crate::input::{read_at, read_front};
+use crate::input::{read_at, read_front, zeros};
 use crate::object_parts::{ELF_HEADER_SIZE, PROGRAM_HEADER_SIZE, write_u64};
 use framehop_coredump::core_file::read_core_file;
 use framehop_coredump::mapped_file::{MappedFile, read_mapped_files};
@@ -168,7 +168,7 @@ impl CoreParts {
 
     /// Reads the bytes that are wanted, of which there are so many.
     fn read_bytes(&mut self, alloc: Global, size: u64) -> io::Result<Vec<u8>> {
-        let mut bytes = Vec::from_elem(alloc, 0u8, size as usize)?;
+        let mut bytes = zeros(alloc, size as usize)?;
         let mut rest = bytes.as_mut_slice();
         for segment in &self.segments {
             let (offset, size) = (segment.wanted_offset(), segment.wanted);

@@ -2,7 +2,7 @@
 use crate::messages::say_of;
 use framehop_cli::Result;
 use framehop_folded::text::is_text;
-use std::alloc::Global;
+use std::alloc::{AllocError, Global};
 use std::fs::File;
 use std::io::{ErrorKind, Read, Seek, SeekFrom};
 use std::{fs, io};
@@ -12,6 +12,9 @@ const LARGE_RECORDING: u64 = 50_000_000;
 
 /// How many bytes of a file are read at a time.
 const PART: usize = 0x4_0000;
+
+/// How many zeros are written at a time.
+const BLOCK: usize = 0x1000;
 
 /// What a file is.
 #[derive(Clone, Copy)]
@@ -103,7 +106,7 @@ pub(crate) fn read_sized(rt: &HostRuntime, path: &str, size: u64) -> io::Result<
 /// Reads bytes of a file up to an end, after those that were read.
 fn read_part(file: &mut File, end: usize, bytes: &mut Vec<u8>) -> io::Result<()> {
     let start = bytes.len();
-    bytes.resize(end, 0u8)?;
+    append_zeros(bytes, end.saturating_sub(start))?;
     match bytes.as_mut_slice().get_mut(start..) {
         Some(part) => file.read_exact(part),
         None => Ok(()),
@@ -117,9 +120,25 @@ pub(crate) fn read_at(
     offset: u64,
     size: u64,
 ) -> io::Result<Vec<u8>> {
-    let mut bytes = Vec::from_elem(alloc, 0u8, size as usize)?;
+    let mut bytes = zeros(alloc, size as usize)?;
     fill_at(file, offset, bytes.as_mut_slice())?;
     Ok(bytes)
+}
+
+/// Returns so many zeros.
+pub(crate) fn zeros(alloc: Global, count: usize) -> Result<Vec<u8>, AllocError> {
+    let mut bytes = Vec::with_capacity(alloc, count)?;
+    append_zeros(&mut bytes, count)?;
+    Ok(bytes)
+}
+
+/// Appends so many zeros, a block at a time: one by one they take longer than the file's bytes that are read over them.
+fn append_zeros(bytes: &mut Vec<u8>, count: usize) -> Result<(), AllocError> {
+    let block = [0u8; BLOCK];
+    for start in (0..count).step_by(BLOCK) {
+        bytes.extend_from_slice(&block[..(count - start).min(BLOCK)])?;
+    }
+    Ok(())
 }
 
 /// Reads so many bytes of a file from an offset on to the front of a slice, and returns the rest of it.

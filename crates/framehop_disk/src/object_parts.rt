@@ -1,6 +1,6 @@
 //! Mapped files without the sections of which neither unwinding nor names ask for a byte: most of a file that was built for
 //! debugging.
-use crate::input::{read_at, read_front, read_sized};
+use crate::input::{read_at, read_front, read_sized, zeros};
 use framehop_elf::header::{FileHeader, read_file_header};
 use framehop_elf::program_header::{PT_NOTE, ProgramHeader, read_program_headers};
 use framehop_elf::section::SHT_NOBITS;
@@ -305,7 +305,7 @@ fn is_kept(offset: u64, size: u64, left_out: &[Gap]) -> bool {
 /// Reads a file of a size without the parts that are left out.
 fn read_rest(alloc: Global, file: &mut File, size: u64, left_out: &[Gap]) -> io::Result<Vec<u8>> {
     let without = moved(size, left_out);
-    let mut bytes = Vec::from_elem(alloc, 0u8, without as usize)?;
+    let mut bytes = zeros(alloc, without as usize)?;
     let mut rest = bytes.as_mut_slice();
     let mut start = 0;
     for part in left_out {

@@ -1,19 +1,21 @@
 -- The word for want of which a walk ended: its address (AVMA), where the end and the rows of the frames tell that. A row says
 -- where the caller's registers are saved (DWARF 5 section 6.4.1).
-use Rattle.std.specs.Prelude.{ℕ, ◌+◌, ◌-◌, ◌^◌, min, Bool, true, false, is_some, List, [], ◌∷◌, length, slice_get, Option, Some, None, option_and_then, if◌then◌else◌}
+use Rattle.std.specs.Prelude.{ℕ, ℤ, ◌+◌, ◌-◌, ◌%◌, ◌^◌, min, Bool, true, false, is_some, List, [], ◌∷◌, length, slice_get, Option, Some, None, option_and_then, if◌then◌else◌}
+use Rattle.std.specs.Int.{cast_unsigned, w64}
 use Rattle.std.specs.Option.{option_or}
 use Rattle.framehop_core.specs.CodeAddress.{FrameLocation}
 use Rattle.framehop_core.specs.Memory.{Memory}
 use Rattle.framehop_core.specs.declared.error.Error.TheVariants.{CouldNotReadStack}
 use Rattle.framehop_cfi.specs.Row.{rule_of}
-use Rattle.framehop_cfi.specs.declared.rule.CfaRule.{CfaRule}
-use Rattle.framehop_cfi.specs.declared.rule.CfaRule.TheVariants.{RegisterAndOffset, Expression as CfaExpression}
 use Rattle.framehop_cfi.specs.declared.rule.Register.{Register}
 use Rattle.framehop_cfi.specs.declared.rule.RegisterRule.{RegisterRule}
 use Rattle.framehop_cfi.specs.declared.rule.RegisterRule.TheVariants as rule
+use Rattle.framehop_columns.specs.Base.{base_of}
 use Rattle.framehop_columns.specs.Convention.{stack_pointer_of, return_address_of, keeps}
 use Rattle.framehop_columns.specs.RegisterFile.{word_of}
 use Rattle.framehop_columns.specs.Rules.{cfa_of, sum_of}
+use Rattle.framehop_columns.specs.declared.base.CfaBase.{CfaBase}
+use Rattle.framehop_columns.specs.declared.base.CfaBase.TheVariants as base
 use Rattle.framehop_columns.specs.declared.convention.Convention.{Convention}
 use Rattle.framehop_backtrace.specs.Backtrace.{Backtrace, FrameView}
 use Rattle.framehop_backtrace.specs.Machine.{Machine}
@@ -67,13 +69,9 @@ module _ {Regs : Type 0} (convention : Convention) (memory : Memory) (rows : Fra
 unfoldable pub last_of : {Frame : Type 0} → List Frame → Option Frame
 last_of frames = slice_get frames (length frames - 1)
 
--- the register from which a row's CFA counts
-abbrev pub base_of : CfaRule → Option Register
-base_of (RegisterAndOffset register offset) = Some register
-base_of (CfaExpression expression) = None
-
-abbrev pub base_in : Finding → Option Register
-base_in (by_row section row) = base_of row.cfa
+-- what a row's CFA counts from
+abbrev pub base_in : Finding → Option CfaBase
+base_in (by_row section row) = base_of section row.cfa
 base_in uncovered = None
 base_in no_row = None
 
@@ -89,6 +87,18 @@ first_unknown machine words =
 abbrev pub unread_in : Memory → ℕ → ℕ → Option ℕ
 unread_in memory size sp = option_or (unread_at memory sp) (unread_at memory (min (sp + (size - 8)) (2 ^ 64 - 1)))
 
+module _ {Regs : Type 0} (convention : Convention) (memory : Memory) (rows : FrameLocation → Finding) where
+  -- What a CFA counts from isn't known in the last of frames: the word of its register, or the word that its expression
+  -- reads at a distance from the register, if that has a value.
+  abbrev pub missing_word_at : List (FrameView Regs) → Register → ℤ → Option ℕ → Option ℕ
+  missing_word_at frames register offset (Some value) =
+      unread_at memory ((value + cast_unsigned w64 offset) % 2 ^ 64)
+  missing_word_at frames register offset None = missing_in_last convention memory rows register frames
+
+  abbrev pub missing_base : List (FrameView Regs) → List (Option ℕ) → CfaBase → Option ℕ
+  missing_base frames words (base.Register register) = missing_in_last convention memory rows register frames
+  missing_base frames words (base.Word register offset) = missing_word_at frames register offset (word_of words register)
+
 module _ {Regs : Type 0} (machine : Machine Regs) (rows : FrameLocation → Finding) (memory : Memory) where
   -- the word that ends a walk at its last frame
   abbrev pub missing_at : List (FrameView Regs) → FrameView Regs → BacktraceEnd → Option ℕ
@@ -100,8 +110,7 @@ module _ {Regs : Type 0} (machine : Machine Regs) (rows : FrameLocation → Find
       missing_after machine.convention memory register frame.columns (rows frame.location)
       (missing_in_last machine.convention memory rows register frames)
   missing_at frames frame CfaUnknown =
-      option_and_then (λ register. missing_in_last machine.convention memory rows register frames)
-      (base_in (rows frame.location))
+      option_and_then (missing_base machine.convention memory rows frames frame.columns) (base_in (rows frame.location))
   missing_at frames frame RegistersUnknown =
       missing_in_last machine.convention memory rows (first_unknown machine frame.columns) frames
   missing_at frames frame end = None

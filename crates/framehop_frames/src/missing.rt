@@ -7,15 +7,16 @@ ghost use Rattle.framehop_columns.specs.RegisterFile.{word_of};
 ghost use Rattle.framehop_columns.specs.Rules.{sum_of};
 ghost use Rattle.framehop_columns.specs.Convention.{stack_pointer_of};
 ghost use Rattle.framehop_core.specs.CodeAddress.{location_of};
-ghost use Rattle.framehop_frames.specs.Missing.{unread_at, place_by, is_own, missing_after, missing_in_caller, missing_over, missing_in_last, last_of, base_of, base_in, first_unknown, unread_in, missing_at, missing_word, end_for, end_of_walk};
+ghost use Rattle.framehop_frames.specs.Missing.{unread_at, place_by, is_own, missing_after, missing_in_caller, missing_over, missing_in_last, missing_base, last_of, base_in, first_unknown, unread_in, missing_at, missing_word, end_for, end_of_walk};
 ghost use Rattle.framehop_frames.specs.Walker.{row_limits};
 
 use framehop::{Error, FrameAddress};
 use framehop_backtrace::{BacktraceEnd, BacktraceUnwinder, Frame, RowFinding, Rows, StackTrace};
 use framehop_cfi::context::UnwindContext;
 use framehop_cfi::row::UnwindTableRow;
-use framehop_cfi::rule::{CfaRule, Register, RegisterRule};
+use framehop_cfi::rule::{Register, RegisterRule};
 use framehop_cfi::storage::StoreOnStack;
+use framehop_columns::base::{CfaBase, base_of};
 use framehop_columns::convention::Convention;
 use framehop_columns::memory::WordMemory;
 use framehop_columns::register_file::RegisterFile;
@@ -145,7 +146,7 @@ fn missing_return_address<U: BacktraceUnwinder, W: Rows, M: WordMemory>(
     )
 }
 
-/// Returns the address (AVMA) of the word for want of which the register isn't known from which the last frame's CFA counts.
+/// Returns the address (AVMA) of the word for want of which that isn't known from which the last frame's CFA counts.
 fn missing_base<U: BacktraceUnwinder, W: Rows, M: WordMemory>(
     alloc: Global,
     rows: &W,
@@ -156,34 +157,31 @@ fn missing_base<U: BacktraceUnwinder, W: Rows, M: WordMemory>(
     ensures { IfOk result (λ missing. missing ≡ missing_at U.machine (W.rows rows.now row_limits) (M.memory memory.now)
         (map frame_view frames.now) (frame_view last.now) CfaUnknown) }
 {
+    let convention = U::convention();
     match base_in(alloc, rows, last.address)? {
-        Some(register) => missing_in_last(alloc, U::convention(), rows, memory, register, frames),
+        Some(CfaBase::Register(register)) => {
+            missing_in_last(alloc, convention, rows, memory, register, frames)
+        }
+        Some(CfaBase::Word { register, offset }) => match last.columns.get(register) {
+            Some(base) => Ok(unread_at(memory, base.wrapping_add(offset.cast_unsigned()))),
+            None => missing_in_last(alloc, convention, rows, memory, register, frames),
+        },
         None => Ok(None),
     }
 }
 
-/// Returns the register from which the CFA counts in the row of a frame, if it does.
+/// Returns what the CFA counts from in the row of a frame, if that begins to tell it.
 fn base_in<W: Rows>(
     alloc: Global,
     rows: &W,
     address: FrameAddress,
-) -> Result<Option<Register>, AllocError>
+) -> Result<Option<CfaBase>, AllocError>
     ensures { IfOk result (λ base. base ≡ base_in (W.rows rows.now row_limits (location_of address))) }
 {
     let mut context: UnwindContext<StoreOnStack> = UnwindContext::new_in(alloc)?;
     match rows.row_at(&mut context, address)? {
-        RowFinding::Row(_) => Ok(base_of(*context.row().cfa())),
+        RowFinding::Row(section) => Ok(base_of(section, *context.row().cfa())),
         RowFinding::Uncovered | RowFinding::NoRow => Ok(None),
-    }
-}
-
-/// Returns the register from which a CFA counts, if it does.
-fn base_of(rule: CfaRule) -> Option<Register>
-    ensures { result ≡ base_of rule }
-{
-    match rule {
-        CfaRule::RegisterAndOffset { register, .. } => Some(register),
-        CfaRule::Expression(_) => None,
     }
 }
 

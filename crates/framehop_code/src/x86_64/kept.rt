@@ -58,15 +58,15 @@ impl KeptInstruction {
 /// other code is mapped at an address. A run of code meets most of its instructions many times.
 #[derive(Drop)]
 pub struct KeptInstructions {
-    /// As many as a power of two. A borrow ends where it begins: none fails.
-    places: RefCell<Vec<Option<KeptInstruction>>>,
+    /// A borrow ends where it begins: none fails.
+    kept: RefCell<Kept>,
 }
 
 impl KeptInstructions {
     /// Returns no instructions, with room for 4,096.
     pub fn new(alloc: Global) -> Result<Self, AllocError> {
         Ok(KeptInstructions {
-            places: RefCell::new(no_places(alloc, FEW)?),
+            kept: RefCell::new(Kept::new(alloc, FEW)?),
         })
     }
 
@@ -75,17 +75,17 @@ impl KeptInstructions {
         if self.is_large() {
             return Ok(());
         }
-        let room = no_places(alloc, MANY)?;
-        if let Ok(mut places) = self.places.try_borrow_mut() {
-            *places = room;
+        let room = Kept::new(alloc, MANY)?;
+        if let Ok(mut kept) = self.kept.try_borrow_mut() {
+            *kept = room;
         }
         Ok(())
     }
 
     /// Returns whether there is room for the instructions of large code.
     fn is_large(&self) -> bool {
-        match self.places.try_borrow() {
-            Ok(places) => places.len() >= MANY,
+        match self.kept.try_borrow() {
+            Ok(kept) => kept.places.len() >= MANY,
             Err(_) => false,
         }
     }
@@ -104,61 +104,109 @@ impl KeptInstructions {
     fn action_of(&self, code: &[u8; LONGEST]) -> Option<Instruction>
         ensures { result ≡ action_at code.now 0 }
     {
-        let hash = hash_of(code);
-        match self.kept(hash, code) {
-            Some(instruction) => Some(instruction),
-            None => {
-                let instruction = action_at(code, 0)?;
-                self.keep(hash, code, instruction);
-                Some(instruction)
-            }
+        let Ok(mut kept) = self.kept.try_borrow_mut() else {
+            return action_at(code, 0);
+        };
+        kept.action_of(code)
+    }
+}
+
+/// Instructions in the order in which they were met: mostly a run meets one after another as a run before it did, so that
+/// they are read from memory in turn.
+#[derive(Drop)]
+struct Kept {
+    list: Vec<KeptInstruction>,
+    /// Where in the list the instructions are, by a hash of their bytes; as many as a power of two.
+    places: Vec<usize>,
+    /// The place in the list after that of the instruction that was found last.
+    next: usize,
+    /// The place in the list of the instruction that goes next, once the list is full.
+    oldest: usize,
+}
+
+impl Kept {
+    /// Returns no instructions, with room for so many, a power of two.
+    fn new(alloc: Global, count: usize) -> Result<Self, AllocError> {
+        let mut places = Vec::with_capacity(alloc, count)?;
+        for _ in 0..count {
+            places.push(0)?;
         }
+        Ok(Kept {
+            list: Vec::with_capacity(alloc, count)?,
+            places,
+            next: 0,
+            oldest: 0,
+        })
     }
 
-    /// Returns the instruction at the front of code, if it is kept.
-    fn kept(&self, hash: u64, code: &[u8; LONGEST]) -> Option<Instruction>
+    /// Returns the instruction at the front of code, which is kept, or else kept now.
+    fn action_of(&mut self, code: &[u8; LONGEST]) -> Option<Instruction>
+        ensures { result ≡ action_at code.now 0 }
+    {
+        if let Some(instruction) = self.found_at(self.next, code) {
+            return Some(instruction);
+        }
+        let hash = place_of(code, self.places.len());
+        if let Some(instruction) = self.found_at(self.place_at(hash), code) {
+            return Some(instruction);
+        }
+        let instruction = action_at(code, 0)?;
+        self.keep(hash, code, instruction);
+        Some(instruction)
+    }
+
+    /// Returns the instruction at the front of code, if it is at a place in the list. The next one is looked for after it.
+    fn found_at(&mut self, place: usize, code: &[u8; LONGEST]) -> Option<Instruction>
         ensures { IfSome result (λ instruction. action_at code.now 0 ≡ Some instruction) }
     {
-        let places = self.places.try_borrow().ok()?;
-        match places.get(place_of(hash, places.len())) {
-            Some(Some(kept)) => kept.of(code),
-            _ => None,
+        let found = self.list.get(place)?.of(code);
+        if found.is_some() {
+            self.next = place.saturating_add(1);
+        }
+        found
+    }
+
+    /// Returns the place in the list for a hash.
+    fn place_at(&self, hash: usize) -> usize {
+        match self.places.get(hash) {
+            Some(place) => *place,
+            None => 0,
         }
     }
 
-    /// Keeps the instruction at the front of code in its place.
-    fn keep(&self, hash: u64, code: &[u8; LONGEST], instruction: Instruction)
+    /// Keeps the instruction at the front of code: after the others, or in the place of the oldest.
+    fn keep(&mut self, hash: usize, code: &[u8; LONGEST], instruction: Instruction)
         requires { action_at code.now 0 ≡ Some instruction }
     {
-        let Ok(mut places) = self.places.try_borrow_mut() else {
-            return;
+        let kept = KeptInstruction {
+            code: *code,
+            instruction,
         };
-        let at = place_of(hash, places.len());
-        if let Some(place) = places.get_mut(at) {
-            *place = Some(KeptInstruction {
-                code: *code,
-                instruction,
-            });
+        let place = self.put(kept);
+        if let Some(at) = self.places.get_mut(hash) {
+            *at = place;
         }
+        self.next = place.saturating_add(1);
+    }
+
+    /// Puts an instruction into the list, and returns its place there. No memory is taken.
+    fn put(&mut self, kept: KeptInstruction) -> usize {
+        let count = self.list.len();
+        if count < self.list.capacity() {
+            let _is_kept = self.list.push(kept).is_ok();
+            return count;
+        }
+        let place = if self.oldest < count { self.oldest } else { 0 };
+        if let Some(oldest) = self.list.get_mut(place) {
+            *oldest = kept;
+        }
+        self.oldest = place.saturating_add(1);
+        place
     }
 }
 
-/// Returns so many places in which nothing is kept.
-fn no_places(alloc: Global, count: usize) -> Result<Vec<Option<KeptInstruction>>, AllocError> {
-    let mut places = Vec::with_capacity(alloc, count)?;
-    for _ in 0..count {
-        places.push(None)?;
-    }
-    Ok(places)
-}
-
-/// Returns a number of bytes of code: those of like code differ in their high bits.
-fn hash_of(code: &[u8; LONGEST]) -> u64 {
+/// Returns the place of code among so many, a power of two below 2^32: those of like code differ.
+fn place_of(code: &[u8; LONGEST], count: usize) -> usize {
     let word = u64_at(code, 0) ^ u64_at(code, 7).rotate_left(32);
-    word.wrapping_mul(SPREAD)
-}
-
-/// Returns the place of a number among so many, a power of two below 2^32.
-fn place_of(hash: u64, count: usize) -> usize {
-    (hash >> 32) as usize & count.saturating_sub(1)
+    (word.wrapping_mul(SPREAD) >> 32) as usize & count.saturating_sub(1)
 }

@@ -1,6 +1,7 @@
 //! Expressions that read memory, by hand (DWARF 5 section 2.5.1.3).
 use crate::columns::frames::{bytes_of, memory_of};
-use framehop_cfi::rule::{Expression, Register};
+use framehop_cfi::rule::{CfaRule, Expression, Register};
+use framehop_columns::base::{CfaBase, base_of};
 use framehop_columns::evaluation::evaluate;
 use framehop_columns::register_file::RegisterFile;
 use std::alloc::{AllocError, Global};
@@ -58,6 +59,52 @@ fn evaluates(rt: HostRuntime) -> Result<(), Fail> {
             value
         );
     }
+    Ok(())
+}
+
+/// CFAs as expressions, and what they count from.
+const BASES: [(&'static [u8], Option<CfaBase>); 5] = [
+    // of gcc, where a function aligns its stack pointer: DW_OP_breg6 -8, DW_OP_deref
+    (
+        &[0x76, 0x78, 0x06],
+        Some(CfaBase::Word {
+            register: Register(6),
+            offset: -8,
+        }),
+    ),
+    // of OpenSSL's SHA-256: DW_OP_breg7 112, DW_OP_deref, DW_OP_plus_uconst 8
+    (
+        &[0x77, 0xf0, 0x00, 0x06, 0x23, 0x08],
+        Some(CfaBase::Word {
+            register: Register(7),
+            offset: 112,
+        }),
+    ),
+    // of a PLT: DW_OP_breg7 8, DW_OP_breg16 0, DW_OP_lit15 ..
+    (
+        &[0x77, 0x08, 0x80, 0x00, 0x3f],
+        Some(CfaBase::Register(Register(7))),
+    ),
+    // DW_OP_const2u 0x1000, DW_OP_deref
+    (&[0x0a, 0x00, 0x10, 0x06], None),
+    // no operation
+    (&[], None),
+];
+
+#[test]
+fn counts_from_a_register_or_a_word(rt: HostRuntime) -> Result<(), Fail> {
+    for (code, base) in BASES {
+        let whole = Expression {
+            start: 0,
+            end: code.len(),
+        };
+        assert_eq!(rt; base_of(code, CfaRule::Expression(whole)), base);
+    }
+    let rule = CfaRule::RegisterAndOffset {
+        register: Register(7),
+        offset: 16,
+    };
+    assert_eq!(rt; base_of(&[], rule), Some(CfaBase::Register(Register(7))));
     Ok(())
 }
 
