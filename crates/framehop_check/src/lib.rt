@@ -26,6 +26,7 @@ pub mod known;
 pub mod missing;
 pub mod prolog;
 pub mod report;
+pub mod room;
 pub mod rows;
 pub mod sections;
 pub mod tracked;

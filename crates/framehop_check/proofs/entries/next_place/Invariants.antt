@@ -1,7 +1,7 @@
 use Rattle.std.proofs.Common.{◌≡◌, ◌≤◌, ◌-◌, List, length}
 use Rattle.framehop_check.specs.declared.entries.Entry.{Entry}
 use Rattle.framehop_check.specs.Entries.{AreEntries}
-use Rattle.framehop_check.proofs.entries.next_entry.Given as goal
+use Rattle.framehop_check.proofs.entries.next_place.Given as goal
 
 -- what was passed is no entry
 abbrev pub invariant-loop-at : goal.invariant-loop-at

@@ -1,7 +1,7 @@
 use Rattle.std.proofs.Common.{length, sym, ap, ◌∙◌, arith}
 use Rattle.framehop_cfi.specs.Section.{Section}
 use Rattle.framehop_check.specs.Entries.{at_end, at_mark, past_zero, cut_off, one}
-use Rattle.framehop_check.proofs.entries.next_entry.Goals as goal
+use Rattle.framehop_check.proofs.entries.next_place.Goals as goal
 
 pub returns-in_default-clause-some : goal.returns-in_default-clause-some
 returns-in_default-clause-some c =
@@ -16,7 +16,7 @@ returns-then-not-is_zero_length-clause-some c =
     let read = rw bytes at c.in-Ok.ensures.exact in
     λ entries rest.
     c.loop-at.invariant.passed _
-    (rw c.entry_at.ensures (one (sym read) (sym c.is_zero_length.ensures ∙ c.if-not-is_zero_length.true) rest))
+    (one (sym read) (sym c.is_zero_length.ensures ∙ c.if-not-is_zero_length.true) rest)
 
 pub returns-in-EhFrame-clause-none : goal.returns-in-EhFrame-clause-none
 returns-in-EhFrame-clause-none c =
