@@ -16,14 +16,29 @@ def entry(body):
     return struct.pack("<I", len(body)) + body
 
 
-def cie(instructions=b""):
+def cie(instructions=b"", letters=b""):
     """CFA = rsp + 8, and the return address below it."""
-    return entry(bytes(4) + bytes([1, 0, 1, 0x78, 16, 0x0C, 7, 8, 0x90, 1]) + instructions)
+    data = b"\0" if letters else b""
+    return entry(bytes(4) + b"\1" + letters + bytes([0, 1, 0x78, 16]) + data + bytes([0x0C, 7, 8, 0x90, 1]) + instructions)
 
 
 def fde(at, start, size, instructions=b""):
     """An FDE at an offset of the section, for the CIE at its front."""
     return entry(struct.pack("<IQQ", at + 4, start, size) + instructions)
+
+
+def in_turn(count, one, letters=b""):
+    """Functions whose FDEs lead to two CIEs in turn."""
+    section = one + one
+    data = b"\0" if letters else b""
+    parts = [section]
+    at = len(section)
+    for index in range(count):
+        cie_at = index % 2 * len(one)
+        part = entry(struct.pack("<IQQ", at + 4 - cie_at, CODE + 3 * index, 3) + data)
+        parts.append(part)
+        at += len(part)
+    return (MOVE + RET) * count, b"".join(parts), []
 
 
 def frames(functions, instructions=b""):
@@ -77,6 +92,17 @@ def shared_cie(count):
     return (MOVE + RET) * count, frames([(CODE + 3 * at, 3, b"") for at in range(count)], bytes(count)), []
 
 
+def cies_in_turn(count):
+    """Functions of two CIEs in turn, each of as many instructions."""
+    return in_turn(count, cie(bytes(count)))
+
+
+def letters_in_turn(count):
+    """Functions of two CIEs in turn, each with an augmentation text of as many letters."""
+    letters = b"z" + b"S" * count
+    return in_turn(count, cie(letters=letters), letters)
+
+
 def remembered(count):
     """A function whose rows remember and restore one another."""
     rows_of = (REMEMBER + b"\x42\x0e\x08") * count + RESTORE * count
@@ -89,7 +115,8 @@ def overlapping(count):
 
 
 KINDS = {function.__name__.replace("_", "-"): function for function in (
-    functions, rows, jumps, back_jumps, alarms, symbols, shared_cie, remembered, overlapping)}
+    functions, rows, jumps, back_jumps, alarms, symbols, shared_cie, cies_in_turn, letters_in_turn, remembered,
+    overlapping)}
 
 
 def elf(code, section, names):

@@ -4,21 +4,20 @@ use Rattle.std.specs.Io.Iter.{u64_saturate}
 use Rattle.std.proofs.lemmas.List.{append-nil}
 use Rattle.framehop_cfi.specs.Section.{Section}
 use Rattle.framehop_cfi.specs.declared.entry.FrameDescriptionEntry.{FrameDescriptionEntry}
-use Rattle.framehop_check.specs.declared.missing.Range.{Range}
 use Rattle.framehop_check.specs.declared.entries.Entry.{Entry}
 use Rattle.framehop_check.specs.declared.entries.Entry.TheVariants.{Fde, Other, Unreadable}
-use Rattle.framehop_check.specs.Entries.{AreEntries, range_of, with_entry, ranges_of, one_if_unreadable, unreadable_in}
+use Rattle.framehop_check.specs.Entries.{AreEntries, with_entry, fdes_of, one_if_unreadable, unreadable_in}
 
-with-more : (entry : Entry) (ranges more : List Range) → with_entry entry (ranges ++ more) ≡ with_entry entry ranges ++ more
-with-more (Fde fde) ranges more = refl
-with-more Other ranges more = refl
-with-more Unreadable ranges more = refl
+with-more : (entry : Entry) (fdes more : List FrameDescriptionEntry) → with_entry entry (fdes ++ more) ≡ with_entry entry fdes ++ more
+with-more (Fde fde) fdes more = refl
+with-more Other fdes more = refl
+with-more Unreadable fdes more = refl
 
 -- one entry more
-pub ranges-push : (before : List Entry) (entry : Entry) → ranges_of (before ++ entry ∷ []) ≡ ranges_of before ++ with_entry entry []
-ranges-push [] entry = refl
-ranges-push (first ∷ before) entry =
-    ap (with_entry first) (ranges-push before entry) ∙ with-more first (ranges_of before) (with_entry entry [])
+pub fdes-push : (before : List Entry) (entry : Entry) → fdes_of (before ++ entry ∷ []) ≡ fdes_of before ++ with_entry entry []
+fdes-push [] entry = refl
+fdes-push (first ∷ before) entry =
+    ap (with_entry first) (fdes-push before entry) ∙ with-more first (fdes_of before) (with_entry entry [])
 
 pub unreadable-push : (before : List Entry) (entry : Entry) → unreadable_in (before ++ entry ∷ []) ≡ unreadable_in before + one_if_unreadable entry
 unreadable-push [] entry = omega arith
@@ -33,14 +32,15 @@ one-more sum count is = grind arith
 
 -- what is read of one entry more
 module _ (before : List Entry) (entry : Entry) where
-  pub fde-ranges : (fde : FrameDescriptionEntry) (ranges more : List Range) (range : Range) → entry ≡ Fde fde
-      → ranges ≡ ranges_of before → more ≡ ranges ++ range ∷ [] → range ≡ range_of fde → more ≡ ranges_of (before ++ entry ∷ [])
-  fde-ranges fde ranges more range is so pushed at =
-      let all = ranges-push before entry ∙ ap (λ (e : Entry). ranges_of before ++ with_entry e []) is in cc
+  pub one-fde : (fde : FrameDescriptionEntry) (fdes more : List FrameDescriptionEntry) → entry ≡ Fde fde
+      → fdes ≡ fdes_of before → more ≡ fdes ++ fde ∷ [] → more ≡ fdes_of (before ++ entry ∷ [])
+  one-fde fde fdes more is so pushed =
+      let all = fdes-push before entry ∙ ap (λ (e : Entry). fdes_of before ++ with_entry e []) is in cc
 
-  pub no-ranges : (ranges : List Range) → with_entry entry [] ≡ [] → ranges ≡ ranges_of before → ranges ≡ ranges_of (before ++ entry ∷ [])
-  no-ranges ranges none so =
-      so ∙ sym (ranges-push before entry ∙ ap (λ (more : List Range). ranges_of before ++ more) none ∙ append-nil (ranges_of before))
+  pub no-fde : (fdes : List FrameDescriptionEntry) → with_entry entry [] ≡ [] → fdes ≡ fdes_of before
+      → fdes ≡ fdes_of (before ++ entry ∷ [])
+  no-fde fdes none so =
+      so ∙ sym (fdes-push before entry ∙ ap (λ (more : List FrameDescriptionEntry). fdes_of before ++ more) none ∙ append-nil (fdes_of before))
 
   pub one-unreadable : (count more : ℕ) → one_if_unreadable entry ≡ 1 → count ≡ u64_saturate (unreadable_in before)
       → more ≡ u64_saturate (count + 1) → more ≡ u64_saturate (unreadable_in (before ++ entry ∷ []))

@@ -1,17 +1,22 @@
 -- The entries of a call frame section, one after another (DWARF 5 section 6.4.1; LSB, ".eh_frame").
-use Rattle.std.specs.Prelude.{ℕ, ◌+◌, ◌<◌, ◌≤◌, ◌≡◌, true, false, List, [], ◌∷◌, length, Result, Ok, Err}
+use Rattle.std.specs.Prelude.{ℕ, ◌+◌, ◌<◌, ◌≤◌, ◌≡◌, true, false, List, [], ◌∷◌, length, Option, Some, None, IfSome, Result, Ok, Err}
+use Rattle.std.specs.BTreeMap.{BTreeMap, get}
+use Rattle.std.specs.Ordering.{nat_cmp}
 use Rattle.std.specs.Io.Iter.{u64_saturate}
 use Rattle.framehop_cfi.specs.Section.{Section}
-use Rattle.framehop_cfi.specs.Entry.{head_at, fde_at}
+use Rattle.framehop_cfi.specs.Entry.{head_at, cie_at, fde_at}
 use Rattle.framehop_cfi.specs.EntryExtent.{extent_at, is_zero_length}
 use Rattle.framehop_cfi.specs.declared.extent.EntryExtent.{EntryExtent}
 use Rattle.framehop_cfi.specs.declared.entry.EntryHead.{EntryHead}
 use Rattle.framehop_cfi.specs.declared.entry.EntryHead.TheVariants as head
+use Rattle.framehop_cfi.specs.declared.entry.CommonInformationEntry.{CommonInformationEntry}
 use Rattle.framehop_cfi.specs.declared.entry.FrameDescriptionEntry.{FrameDescriptionEntry}
 use Rattle.framehop_cfi.specs.declared.entry.UnwindSectionType.TheVariants.{EhFrame, DebugFrame}
 use Rattle.framehop_cfi.specs.declared.read_error.ReadError.{ReadError}
 use Rattle.framehop_check.specs.declared.entries.Entry.{Entry}
 use Rattle.framehop_check.specs.declared.entries.Entry.TheVariants.{Fde, Other, Unreadable}
+use Rattle.framehop_check.specs.declared.entries.Place.{Place}
+use Rattle.framehop_check.specs.declared.entries.Place.TheVariants.{At, CutOff}
 use Rattle.framehop_check.specs.declared.missing.Range.{Range}
 
 -- an entry by its head: an FDE can be read if its CIE and its fields can be
@@ -45,19 +50,15 @@ pub data AreEntries (section : Section) : ℕ → List Entry → Type 0 where
       → is_zero_length extent ≡ false → AreEntries section extent.end entries
       → AreEntries section at (entry_at section at ∷ entries)
 
--- the addresses that an FDE covers; the last address of 64 bits is in no range
-abbrev pub range_of : FrameDescriptionEntry → Range
-range_of fde = record { start = fde.initial_address; end = u64_saturate (fde.initial_address + fde.address_range) }
+-- the FDEs among entries, and how many entries can't be read
+abbrev pub with_entry : Entry → List FrameDescriptionEntry → List FrameDescriptionEntry
+with_entry (Fde fde) fdes = fde ∷ fdes
+with_entry Other fdes = fdes
+with_entry Unreadable fdes = fdes
 
--- what the FDEs among entries cover, and how many entries can't be read
-abbrev pub with_entry : Entry → List Range → List Range
-with_entry (Fde fde) ranges = range_of fde ∷ ranges
-with_entry Other ranges = ranges
-with_entry Unreadable ranges = ranges
-
-abbrev pub ranges_of : List Entry → List Range
-ranges_of [] = []
-ranges_of (entry ∷ entries) = with_entry entry (ranges_of entries)
+abbrev pub fdes_of : List Entry → List FrameDescriptionEntry
+fdes_of [] = []
+fdes_of (entry ∷ entries) = with_entry entry (fdes_of entries)
 
 abbrev pub one_if_unreadable : Entry → ℕ
 one_if_unreadable Unreadable = 1
@@ -67,3 +68,24 @@ one_if_unreadable (Fde fde) = 0
 abbrev pub unreadable_in : List Entry → ℕ
 unreadable_in [] = 0
 unreadable_in (entry ∷ entries) = one_if_unreadable entry + unreadable_in entries
+
+-- the addresses that an FDE covers; the last address of 64 bits is in no range
+abbrev pub range_of : FrameDescriptionEntry → Range
+range_of fde = record { start = fde.initial_address; end = u64_saturate (fde.initial_address + fde.address_range) }
+
+-- ---- one entry after another
+
+-- the entry at a place, or one whose length can't be read
+abbrev pub entry_of : Section → Place → Entry
+entry_of section (At offset) = entry_at section offset
+entry_of section CutOff = Unreadable
+
+-- the CIE at an offset, if it can be read
+abbrev pub if_read : Result CommonInformationEntry ReadError → Option CommonInformationEntry
+if_read (Ok cie) = Some cie
+if_read (Err error) = None
+
+-- what is kept of an offset is the CIE there
+abbrev pub IsKept : Section → BTreeMap ℕ (Option CommonInformationEntry) → Type 0
+IsKept section cies =
+    (offset : ℕ) → IfSome (get nat_cmp cies offset) (λ cie. cie ≡ if_read (cie_at section offset))

@@ -12,3 +12,4 @@ pub mod Prolog
 pub mod Missing
 pub mod Entries
 pub mod Sections
+pub mod Room

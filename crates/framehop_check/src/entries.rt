@@ -1,14 +1,18 @@
 //! The entries of a call frame section, one after another.
-ghost use Rattle.std.specs.Prelude.{◌≡◌, ◌<◌, [], ◌∷◌, List, IfSome, IfOk};
+ghost use Rattle.std.specs.Prelude.{◌≡◌, ◌<◌, [], ◌∷◌, List, IfSome, IfOk, map};
 ghost use Rattle.std.specs.Io.Iter.{u64_saturate};
-ghost use Rattle.framehop_cfi.specs.EntryExtent.{is_zero_length};
+ghost use Rattle.framehop_cfi.specs.Entry.{cie_at};
 ghost use Rattle.framehop_check.specs.declared.entries.Entry.{Entry};
-ghost use Rattle.framehop_check.specs.Entries.{entry_at, AreEntries, range_of, ranges_of, unreadable_in};
+ghost use Rattle.framehop_check.specs.Entries.{entry_if_read, entry_at, AreEntries, range_of, fdes_of, unreadable_in, entry_of, if_read, IsKept};
 
 use crate::missing::Range;
-use framehop_cfi::entry::{EntryHead, FrameDescriptionEntry, UnwindSection, UnwindSectionType};
+use framehop_cfi::entry::{
+    CommonInformationEntry, EntryHead, FrameDescriptionEntry, UnwindSection, UnwindSectionType,
+};
 use framehop_cfi::extent::read_extent;
+use framehop_cfi::read_error::ReadError;
 use std::alloc::{AllocError, Global};
+use std::collections::BTreeMap;
 
 /// An entry of a call frame section.
 #[derive(Clone, Copy, Debug, PartialEq, Eq)]
@@ -20,40 +24,61 @@ pub enum Entry {
     Unreadable,
 }
 
-/// What the FDEs of a section cover.
+/// Where an entry is.
+#[derive(Clone, Copy, Debug, PartialEq, Eq)]
+pub enum Place {
+    /// At an offset of the section.
+    At(usize),
+    /// Its length can't be read.
+    CutOff,
+}
+
+/// The FDEs of a section.
 #[derive(Drop)]
-pub struct Covered {
+pub struct Fdes {
     /// In the section's order.
-    pub ranges: Vec<Range>,
+    pub list: Vec<FrameDescriptionEntry>,
     /// How many entries can't be read.
     pub unreadable: u64,
 }
 
-/// Returns what the FDEs of a section cover.
+/// Reads the FDEs of a section. A CIE is read once, however many FDEs name it.
 ///
 /// # Errors
 ///
 /// An allocation failed.
-pub fn read_covered(alloc: Global, section: &UnwindSection) -> Result<Covered, AllocError>
-    ensures { IfOk result (λ covered. (entries : List Entry) × AreEntries section.now 0 entries
-        × (covered.ranges.items ≡ ranges_of entries) × (covered.unreadable ≡ u64_saturate (unreadable_in entries))) }
+pub fn read_fdes(alloc: Global, section: &UnwindSection) -> Result<Fdes, AllocError>
+    ensures { IfOk result (λ fdes. (entries : List Entry) × AreEntries section.now 0 entries
+        × (fdes.list.items ≡ fdes_of entries) × (fdes.unreadable ≡ u64_saturate (unreadable_in entries))) }
 {
-    let mut covered = Covered {
-        ranges: Vec::new(alloc),
+    let mut fdes = Fdes {
+        list: Vec::new(alloc),
         unreadable: 0,
     };
+    let mut cies = BTreeMap::new(alloc);
     let mut at = 0;
     while at < section.bytes.len() {
-        let Some(entry) = next_entry(section, &mut at) else {
-            return Ok(covered);
+        let Some(place) = next_place(section, &mut at) else {
+            return Ok(fdes);
         };
-        match entry {
-            Entry::Fde(fde) => covered.ranges.push(range_of(&fde))?,
-            Entry::Unreadable => covered.unreadable = covered.unreadable.saturating_add(1),
+        match read_entry(section, &mut cies, place)? {
+            Entry::Fde(fde) => fdes.list.push(fde)?,
+            Entry::Unreadable => fdes.unreadable = fdes.unreadable.saturating_add(1),
             Entry::Other => {}
         }
     }
-    Ok(covered)
+    Ok(fdes)
+}
+
+/// Returns the addresses that FDEs cover.
+///
+/// # Errors
+///
+/// An allocation failed.
+pub fn ranges_of(alloc: Global, fdes: &[FrameDescriptionEntry]) -> Result<Vec<Range>, AllocError>
+    ensures { IfOk result (λ ranges. ranges.items ≡ map range_of fdes.now) }
+{
+    fdes.iter().map(|fde| range_of(fde)).collect(alloc)
 }
 
 /// Returns the addresses that an FDE covers.
@@ -66,11 +91,12 @@ fn range_of(fde: &FrameDescriptionEntry) -> Range
     }
 }
 
-/// Returns the entry of a section at an offset, which then is that of the next one, or `None` where there is none.
-pub fn next_entry(section: &UnwindSection, at: &mut usize) -> Option<Entry>
-    ensures some { IfSome result (λ entry. (entries : List Entry)
-        → AreEntries section.now at.new entries → AreEntries section.now at.old (entry ∷ entries)) }
-    ensures further { IfSome result (λ entry. at.old < at.new) }
+/// Returns where the entry of a section is that an offset leads to, which then is that of the next one, or `None` where there
+/// is none.
+fn next_place(section: &UnwindSection, at: &mut usize) -> Option<Place>
+    ensures some { IfSome result (λ place. (entries : List Entry)
+        → AreEntries section.now at.new entries → AreEntries section.now at.old (entry_of section.now place ∷ entries)) }
+    ensures further { IfSome result (λ place. at.old < at.new) }
     ensures none { result ≡ None → AreEntries section.now at.old [] }
 {
     let size = section.bytes.len();
@@ -78,11 +104,11 @@ pub fn next_entry(section: &UnwindSection, at: &mut usize) -> Option<Entry>
         let begin = *at;
         let Ok(extent) = read_extent(section.bytes, begin) else {
             *at = size;
-            return Some(Entry::Unreadable);
+            return Some(Place::CutOff);
         };
         *at = extent.end;
         if !extent.is_zero_length() {
-            return Some(entry_at(section, begin));
+            return Some(Place::At(begin));
         }
         match section.section_type {
             UnwindSectionType::EhFrame => return None,
@@ -92,17 +118,83 @@ pub fn next_entry(section: &UnwindSection, at: &mut usize) -> Option<Entry>
     None
 }
 
+/// Returns the entry at a place.
+fn read_entry(
+    section: &UnwindSection,
+    cies: &mut BTreeMap<usize, Option<CommonInformationEntry>>,
+    place: Place,
+) -> Result<Entry, AllocError>
+    requires { IsKept section.now cies.old }
+    ensures exact { IfOk result (λ entry. entry ≡ entry_of section.now place) }
+    ensures kept { IsKept section.now cies.new }
+{
+    match place {
+        Place::At(offset) => read_entry_at(section, cies, offset),
+        Place::CutOff => Ok(Entry::Unreadable),
+    }
+}
+
 /// Returns the entry at an offset.
-#[tactic(auto, unfolding(crate::specs::Entries::entry_at))]
-fn entry_at(section: &UnwindSection, at: usize) -> Entry
-    ensures { result ≡ entry_at section.now at }
+#[tactic(auto, unfolding(crate::specs::Entries::entry_at, framehop_cfi::specs::Entry::fde_at))]
+fn read_entry_at(
+    section: &UnwindSection,
+    cies: &mut BTreeMap<usize, Option<CommonInformationEntry>>,
+    at: usize,
+) -> Result<Entry, AllocError>
+    requires { IsKept section.now cies.old }
+    ensures exact { IfOk result (λ entry. entry ≡ entry_at section.now at) }
+    ensures kept { IsKept section.now cies.new }
 {
     match section.head_at(at) {
-        Ok(EntryHead::Fde { .. }) => match section.fde_from_offset(at) {
-            Ok(fde) => Entry::Fde(fde),
-            Err(_) => Entry::Unreadable,
+        Ok(
+            EntryHead::Fde {
+                cie_offset,
+                fields,
+                end,
+            },
+        ) => match read_cie(section, cies, cie_offset)? {
+            Some(cie) => Ok(entry_if_read(section.read_fde(&cie, fields, end))),
+            None => Ok(Entry::Unreadable),
         },
-        Ok(_) => Entry::Other,
+        Ok(_) => Ok(Entry::Other),
+        Err(_) => Ok(Entry::Unreadable),
+    }
+}
+
+/// Returns the entry that is an FDE, if that was read.
+fn entry_if_read(read: Result<FrameDescriptionEntry, ReadError>) -> Entry
+    ensures { result ≡ entry_if_read read }
+{
+    match read {
+        Ok(fde) => Entry::Fde(fde),
         Err(_) => Entry::Unreadable,
+    }
+}
+
+/// Returns the CIE at an offset, if it can be read, and keeps it.
+fn read_cie(
+    section: &UnwindSection,
+    cies: &mut BTreeMap<usize, Option<CommonInformationEntry>>,
+    offset: usize,
+) -> Result<Option<CommonInformationEntry>, AllocError>
+    requires { IsKept section.now cies.old }
+    ensures exact { IfOk result (λ cie. cie ≡ if_read (cie_at section.now offset)) }
+    ensures kept { IsKept section.now cies.new }
+{
+    if let Some(cie) = cies.get(&offset) {
+        return Ok(*cie);
+    }
+    let cie = if_read(section.cie_from_offset(offset));
+    cies.insert(offset, cie)?;
+    Ok(cie)
+}
+
+/// Returns the CIE that was read, if one was.
+fn if_read(read: Result<CommonInformationEntry, ReadError>) -> Option<CommonInformationEntry>
+    ensures { result ≡ if_read read }
+{
+    match read {
+        Ok(cie) => Some(cie),
+        Err(_) => None,
     }
 }

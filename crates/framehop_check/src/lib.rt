@@ -17,6 +17,10 @@
 //!   both are checked.
 //! - The rows of a function are read once and kept as spans: n rows and m instructions cost n + m
 //!   log n.
+//! - Code without rows is what gaps between gaps are: the gaps between what FDEs cover and the gaps
+//!   between sections of code. One loop is proved and used for both.
+//! - A CIE is read once and kept by its offset, so that FDEs which name large ones in turn take no
+//!   square.
 #![tactic(auto)]
 
 pub mod check;
@@ -26,6 +30,7 @@ pub mod known;
 pub mod missing;
 pub mod prolog;
 pub mod report;
+pub mod room;
 pub mod rows;
 pub mod sections;
 pub mod tracked;

@@ -1,5 +1,9 @@
 //! The check of a file.
+ghost use Rattle.std.specs.Prelude.{◌≡◌};
+ghost use Rattle.framehop_check_cli.specs.Parts.{is_good};
+
 use crate::allowed::Allowed;
+use crate::parts::{code_of, function_ranges, rows_section, symbol_section};
 use crate::text::{push_alarm, push_note, push_summary};
 use framehop_bytes::bytes::{back, front};
 use framehop_bytes::string::string_at;
@@ -7,25 +11,23 @@ use framehop_cfi::entry::{FrameDescriptionEntry, UnwindSection, UnwindSectionTyp
 use framehop_cfi::pointer::BaseAddresses;
 use framehop_cfi::storage::StoreOnHeap;
 use framehop_check::check::Checker;
-use framehop_check::entries::{Entry, next_entry};
+use framehop_check::entries::read_fdes;
 use framehop_check::missing::Range;
 use framehop_check::report::{Counts, Report};
-use framehop_check::sections::{CodeSection, CodeSections};
+use framehop_check::room::Room;
+use framehop_check::sections::CodeSections;
 use framehop_code::aarch64::CodeAarch64;
 use framehop_code::effect::Code;
 use framehop_code::x86_64::CodeX86_64;
 use framehop_elf::decompressed::{ContentsError, read_decompressed};
 use framehop_elf::error::ElfError;
 use framehop_elf::header::{EM_AARCH64, EM_X86_64, read_file_header};
-use framehop_elf::section::{read_contents, read_section_names, section_by_name};
+use framehop_elf::section::read_section_names;
 use framehop_elf::section_header::{SectionHeader, read_section_headers};
 use framehop_elf::symbol::{Symbol, SymbolTable, read_function_symbols, read_symbol_names};
 use framehop_pe_file::error::PeError;
 use std::alloc::{AllocError, Global};
 use std::fmt;
-
-/// `SHF_EXECINSTR`.
-const SHF_EXECINSTR: u64 = 4;
 
 /// How many bytes of a name are read: more than are printed.
 const LONGEST_NAME: usize = 4096;
@@ -209,7 +211,7 @@ fn read_parts<'a>(
 ) -> Result<Parts<'a>, ElfError> {
     let (symbols, strings) = read_symbols(alloc, file, sections, names)?;
     Ok(Parts {
-        code: code_sections(alloc, file, sections)?,
+        code: CodeSections::new(code_of(alloc, file, sections)?)?,
         functions: function_ranges(alloc, &symbols)?,
         symbols: SymbolTable::new(symbols)?,
         strings,
@@ -265,37 +267,6 @@ pub struct Others {
     pub sharing: u64,
 }
 
-/// How much is checked yet: as much as FDEs take that do not share code, and few instructions of a CIE.
-#[derive(Clone, Copy)]
-pub struct Room {
-    /// Bytes of code.
-    code: usize,
-    /// Bytes of instructions of CIEs, those of an FDE's at each FDE.
-    instructions: usize,
-}
-
-impl Room {
-    /// Returns the room for a file whose section of rows has a size, in bytes as the file's. In a file that a linker wrote no
-    /// FDE shares code with another, and the instructions of a CIE take fewer bytes than an FDE.
-    pub fn new(file_size: usize, section_size: usize) -> Self {
-        Room {
-            code: file_size.saturating_mul(2),
-            instructions: section_size.saturating_mul(4),
-        }
-    }
-
-    /// Takes the room that an FDE needs with its code, in bytes. Returns whether there is so much.
-    fn take(&mut self, fde: &FrameDescriptionEntry, code_size: usize) -> bool {
-        let instructions = fde.cie.end.saturating_sub(fde.cie.instructions);
-        if code_size > self.code || instructions > self.instructions {
-            return false;
-        }
-        self.code -= code_size;
-        self.instructions -= instructions;
-        true
-    }
-}
-
 /// What the check of a file has found so far.
 #[derive(Drop)]
 pub struct Findings {
@@ -321,33 +292,24 @@ impl Findings {
         }
     }
 
-    /// Counts an entry that can't be read.
-    pub fn count_unreadable(&mut self) {
-        self.others.unreadable = self.others.unreadable.saturating_add(1);
-    }
-
     /// Returns the lines with the summary after them, and whether there are no alarms and each entry was read.
     pub fn into_checked(self, path: &str) -> Result<Checked, AllocError> {
         let counts: Counts = self.report.counts;
         let others = self.others;
         let mut text = self.text;
         push_summary(path, counts, others, &mut text)?;
-        let is_good = counts.alarmed == others.allowed
-            && others.unreadable == 0
-            && others.sharing == 0;
-        Ok(Checked::Text { text, is_good })
+        Ok(Checked::Text {
+            text,
+            is_good: is_good(counts, others),
+        })
     }
 }
 
-/// Returns where functions are.
-fn function_ranges(alloc: Global, symbols: &[Symbol]) -> Result<Vec<Range>, AllocError> {
-    symbols
-        .iter()
-        .map(|symbol| Range {
-            start: symbol.st_value,
-            end: symbol.st_value.saturating_add(symbol.size),
-        })
-        .collect(alloc)
+/// Returns whether there are no alarms but allowed ones, and each entry was read and checked.
+fn is_good(counts: Counts, others: Others) -> bool
+    ensures { result ≡ is_good counts others }
+{
+    counts.alarmed == others.allowed && others.unreadable == 0 && others.sharing == 0
 }
 
 /// Returns the symbols of a file's functions, and their names.
@@ -357,31 +319,13 @@ fn read_symbols<'a>(
     sections: &[SectionHeader],
     names: &[u8],
 ) -> Result<(Vec<Symbol>, &'a [u8]), ElfError> {
-    let table = match section_by_name(sections, names, b".symtab") {
-        Some(table) => Some(table),
-        None => section_by_name(sections, names, b".dynsym"),
-    };
-    match table {
+    match symbol_section(sections, names) {
         Some(table) => {
             let symbols = read_function_symbols(alloc, file, sections, table)?;
             let strings = read_symbol_names(file, sections, table)?;
             Ok((symbols, strings))
         }
         None => Ok((Vec::new(alloc), &[])),
-    }
-}
-
-/// Returns the section that has the rows, and its kind.
-fn rows_section(
-    sections: &[SectionHeader],
-    names: &[u8],
-) -> Option<(SectionHeader, UnwindSectionType)> {
-    match section_by_name(sections, names, b".eh_frame") {
-        Some(section) => Some((section, UnwindSectionType::EhFrame)),
-        None => {
-            let section = section_by_name(sections, names, b".debug_frame")?;
-            Some((section, UnwindSectionType::DebugFrame))
-        }
     }
 }
 
@@ -394,31 +338,19 @@ fn check_section<C: Code>(
     allowed: &Allowed<'_>,
     findings: &mut Findings,
 ) -> Result<(), AllocError> {
+    let fdes = read_fdes(alloc, section)?;
+    findings.others.unreadable = fdes.unreadable;
     let mut checker = Checker::new(alloc)?;
-    check_entries::<C>(&mut checker, section, parts, options, allowed, findings)
-}
-
-/// Checks the FDEs of a section, up to an entry that can't be read or ends the section.
-fn check_entries<C: Code>(
-    checker: &mut Checker<StoreOnHeap>,
-    section: &UnwindSection<'_>,
-    parts: &Parts<'_>,
-    options: Options,
-    allowed: &Allowed<'_>,
-    findings: &mut Findings,
-) -> Result<(), AllocError> {
-    let mut at = 0;
-    for _count in 0..section.bytes.len() {
-        let Some(entry) = next_entry(section, &mut at) else {
-            return Ok(());
-        };
-        match entry {
-            Entry::Fde(fde) => {
-                check_fde::<C>(checker, section, parts, &fde, options, allowed, findings)?;
-            }
-            Entry::Unreadable => findings.count_unreadable(),
-            Entry::Other => {}
-        }
+    for fde in &fdes.list {
+        check_fde::<C>(
+            &mut checker,
+            section,
+            parts,
+            fde,
+            options,
+            allowed,
+            findings,
+        )?;
     }
     Ok(())
 }
@@ -445,25 +377,6 @@ fn check_fde<C: Code>(
     findings.report.notes.clear();
     checker.check_function::<C>(section, fde, code, &mut findings.report)?;
     push_alarms::<C>(parts, fde, code, options, allowed, findings)
-}
-
-/// Returns the sections of code that a file has.
-fn code_sections<'a>(
-    alloc: Global,
-    file: &'a [u8],
-    sections: &[SectionHeader],
-) -> Result<CodeSections<'a>, AllocError> {
-    let mut code = Vec::new(alloc);
-    for section in sections {
-        if section.sh_flags & SHF_EXECINSTR != 0
-            && let Ok(contents) = read_contents(file, *section)
-            && !contents.is_empty()
-        {
-            let address = section.sh_addr;
-            code.push(CodeSection { address, contents })?;
-        }
-    }
-    CodeSections::new(code)
 }
 
 /// Appends the alarms of the function that was checked last.

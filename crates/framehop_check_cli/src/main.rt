@@ -4,6 +4,7 @@
 mod allowed;
 mod file;
 mod missing;
+mod parts;
 mod pe_file;
 mod text;
 

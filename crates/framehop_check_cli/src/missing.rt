@@ -1,7 +1,7 @@
 //! The list of a file's code that no FDE covers.
 use crate::file::{Checked, Opened, Options, Parts, Refusal, name_of, open};
 use crate::text::{push_missing, push_shares};
-use framehop_check::entries::{Covered, read_covered};
+use framehop_check::entries::{Fdes, ranges_of, read_fdes};
 use framehop_check::missing::{Range, add_bounds, bytes_in, missing_ranges};
 use framehop_check::sections::without_padding;
 use framehop_code::aarch64::CodeAarch64;
@@ -48,28 +48,28 @@ fn list_opened<C: Code>(
     options: Options,
 ) -> Result<Checked, AllocError> {
     let parts = &opened.parts;
-    let mut covered = covered(alloc, opened)?;
+    let fdes = fdes_of(alloc, opened)?;
+    let mut covered = ranges_of(alloc, &fdes.list)?;
     let code = parts.code.ranges(alloc)?;
-    add_bounds(&mut covered.ranges, &code)?;
-    add_bounds(&mut covered.ranges, &parts.functions)?;
-    let unreadable = covered.unreadable;
-    let missing = missing_ranges(alloc, code, covered.ranges)?;
+    add_bounds(&mut covered, &code)?;
+    add_bounds(&mut covered, &parts.functions)?;
+    let missing = missing_ranges(alloc, code, covered)?;
     let listed = without_padding::<C>(alloc, &parts.code, &missing)?;
     let sizes = Sizes {
         code: code_size(alloc, parts)?,
         missing: bytes_in(&missing),
         listed: bytes_in(&listed),
-        unreadable,
+        unreadable: fdes.unreadable,
     };
     text_of(alloc, path, parts, &listed, sizes, options)
 }
 
-/// Returns what the FDEs of a file cover.
-fn covered(alloc: Global, opened: &Opened<'_>) -> Result<Covered, AllocError> {
+/// Returns the FDEs of a file.
+fn fdes_of(alloc: Global, opened: &Opened<'_>) -> Result<Fdes, AllocError> {
     match &opened.rows {
-        Some(rows) => read_covered(alloc, &rows.section()),
-        None => Ok(Covered {
-            ranges: Vec::new(alloc),
+        Some(rows) => read_fdes(alloc, &rows.section()),
+        None => Ok(Fdes {
+            list: Vec::new(alloc),
             unreadable: 0,
         }),
     }

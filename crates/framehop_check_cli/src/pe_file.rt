@@ -1,7 +1,8 @@
 //! The check of a PE file: the unwind codes of each entry of its function table.
-use crate::file::{Checked, Findings, Options, Refusal, Room};
+use crate::file::{Checked, Findings, Options, Refusal};
 use crate::text::{push_alarm, push_note};
 use framehop_check::prolog::check_prolog;
+use framehop_check::room::Room;
 use framehop_code::x86_64::CodeX86_64;
 use framehop_pe::unwind_info::function_table::RuntimeFunction;
 use framehop_pe::unwind_info::info::{PrologInfo, UnwindInfo, skip_bytes};
@@ -106,7 +107,7 @@ fn check_entry(
     findings: &mut Findings,
 ) -> Result<(), AllocError> {
     let Some(info) = info_at(image, function.unwind_info_address) else {
-        findings.count_unreadable();
+        findings.others.unreadable = findings.others.unreadable.saturating_add(1);
         return Ok(());
     };
     let Some(code) = code_of(image, function) else {

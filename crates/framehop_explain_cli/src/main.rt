@@ -2,11 +2,21 @@
 //! ELF file or a PE file has to unwind by.
 #![tactic(auto)]
 
+mod explainer;
+mod fault;
+mod fields;
+mod file;
+mod notes;
+mod program;
+mod row_text;
+mod sections;
+
 use clap::{Arg, ArgAction, ArgMatches, Command};
 use either::{Either, Left, Right};
+use file::{FileProblem, explain_file};
 use framehop_cli::{Failure, Result, exit_code, print_text, read_or_tell, tell, usage};
-use framehop_explain_program::{FileProblem, explain_file, explain_program};
 use framehop_walk::{Input, Output};
+use program::explain_program;
 use std::alloc::Global;
 use std::fs::File;
 use std::io::Stdin;
@@ -39,7 +49,7 @@ fn command<'a>(alloc: Global) -> Result<Command<'a>> {
         .version("0.16.0 (commit ............)")
         .about(ABOUT)
         .arg(elf(alloc))?
-        .arg(file(alloc))?
+        .arg(path(alloc))?
         .arg(addresses(alloc))?;
     Ok(command)
 }
@@ -55,7 +65,7 @@ fn elf<'a>(alloc: Global) -> Arg<'a> {
 }
 
 /// Returns the argument that names the file.
-fn file<'a>(alloc: Global) -> Arg<'a> {
+fn path<'a>(alloc: Global) -> Arg<'a> {
     Arg::new(alloc, "file")
         .value_name("FILE")
         .help("Commands in JSON [default: standard input]; with --elf an ELF file or a PE file")

@@ -1,0 +1,121 @@
+-- An ELF file or a PE file as it is read: its machine and its unwind data, or why it is not read.
+use Rattle.std.specs.Prelude.{◌≡◌, ℕ, ◌-◌, ◌^◌, ◌==◌, ◌&&◌, not, Bool, true, MatchBool, nat_eq, if◌then◌else◌, List, [], codes, Option, Some, None, Result, Ok, Err}
+use Rattle.std.specs.List.{starts_with}
+use Rattle.framehop_bytes.specs.Bytes.{◌>>=◌}
+use Rattle.framehop_bytes.specs.ExplicitSections.{table_of}
+use Rattle.framehop_elf.specs.Header.{file_header_of}
+use Rattle.framehop_elf.specs.Section.{section_names_of}
+use Rattle.framehop_elf.specs.SectionHeader.{section_headers_of}
+use Rattle.framehop_elf.specs.UnwindSections.{has_eh_frame, debug_frame_of, unwind_sections_of}
+use Rattle.framehop_elf.specs.declared.decompressed.ContentsError.{ContentsError}
+use Rattle.framehop_elf.specs.declared.decompressed.ContentsError.TheVariants.{OutOfMemory as NoMemoryForContents}
+use Rattle.framehop_elf.specs.declared.error.ElfError.{ElfError}
+use Rattle.framehop_elf.specs.declared.error.ElfError.TheVariants.{OutOfMemory as NoMemoryForElf}
+use Rattle.framehop_elf.specs.declared.section_header.SectionHeader.{SectionHeader}
+use Rattle.framehop_pe_file.specs.Header.{file_header_of as pe_header_of}
+use Rattle.framehop_pe_file.specs.SectionHeader.{section_headers_of as pe_section_headers_of}
+use Rattle.framehop_pe_file.specs.UnwindSections.{unwind_sections_of as pe_sections_of, table_of as pe_table_of}
+use Rattle.framehop_pe_file.specs.declared.error.PeError.{PeError}
+use Rattle.framehop_pe_file.specs.declared.error.PeError.TheVariants.{OutOfMemory as NoMemoryForPe}
+use Rattle.framehop_pe_file.specs.declared.header.Machine.{Machine}
+use Rattle.framehop_pe_file.specs.declared.header.Machine.TheVariants.{X86_64, Aarch64, Other}
+use Rattle.framehop_core.specs.Aarch64.Registers.{Registers as RegistersAarch64}
+use Rattle.framehop.specs.ModuleData.{unwind_data_in}
+use Rattle.framehop.specs.Modules.{UnwindData}
+use Rattle.framehop.specs.Policy.{with_allocation}
+use Rattle.framehop_explain.specs.Architectures.{explaining_aarch64, explaining_x86_64}
+use Rattle.framehop_walk.specs.Registers.{three}
+use Rattle.framehop_explain_cli.specs.declared.file.FileProblem.{FileProblem}
+use Rattle.framehop_explain_cli.specs.declared.file.FileProblem.TheVariants as problem
+use Rattle.framehop_explain_cli.specs.FileText.{IsModuleText}
+use Rattle.framehop_explain_cli.specs.RowText.{x86_64_names, aarch64_names}
+
+-- the numbers by which ELF files name machines (System V gABI, chapter 4, "ELF Header", `e_machine`)
+abbrev pub EM_X86_64 : ℕ
+EM_X86_64 = 62
+
+abbrev pub EM_AARCH64 : ℕ
+EM_AARCH64 = 183
+
+-- the same of the machine of a PE file; another keeps its number
+abbrev pub elf_machine : Machine → ℕ
+elf_machine X86_64 = EM_X86_64
+elf_machine Aarch64 = EM_AARCH64
+elf_machine (Other number) = number
+
+-- the refusal of a reader; running out of memory is the same for all
+abbrev pub of_elf : ElfError → FileProblem
+of_elf NoMemoryForElf = problem.OutOfMemory
+of_elf error = problem.Elf error
+
+abbrev pub of_contents : ContentsError → FileProblem
+of_contents NoMemoryForContents = problem.OutOfMemory
+of_contents error = problem.DebugFrame error
+
+abbrev pub of_pe : PeError → FileProblem
+of_pe NoMemoryForPe = problem.OutOfMemory
+of_pe error = problem.Pe error
+
+abbrev pub refused_by : {A E : Type 0} → (E → FileProblem) → Result A E → Result A FileProblem
+refused_by problem_of (Ok value) = Ok value
+refused_by problem_of (Err error) = Err (problem_of error)
+
+-- a file: the number of its machine, and its unwind data
+pub record FileView : Type 0 where
+  pub machine : ℕ
+  pub unwind_data : UnwindData
+
+-- an ELF file without `.eh_frame` unwinds by its `.debug_frame`
+abbrev pub debug_frame_in : List ℕ → List SectionHeader → List ℕ → Result (Option (List ℕ)) ContentsError
+debug_frame_in file headers names =
+    if has_eh_frame file headers names then Ok None else debug_frame_of file headers names
+
+unfoldable pub elf_of : List ℕ → Result FileView FileProblem
+elf_of file =
+    refused_by of_elf (file_header_of file) >>= λ header.
+    refused_by of_elf (section_headers_of file header) >>= λ headers.
+    refused_by of_elf (section_names_of file header headers) >>= λ names.
+    refused_by of_contents (debug_frame_in file headers names) >>= λ debug_frame.
+    Ok (record {
+      machine = header.e_machine;
+      unwind_data = unwind_data_in (λ bytes. bytes) (table_of (unwind_sections_of file headers names debug_frame));
+    })
+
+unfoldable pub pe_of : List ℕ → Result FileView FileProblem
+pe_of file =
+    refused_by of_pe (pe_header_of file) >>= λ header.
+    refused_by of_pe (pe_section_headers_of file header) >>= λ headers.
+    Ok (record {
+      machine = elf_machine header.machine;
+      unwind_data = unwind_data_in (λ bytes. bytes) (pe_table_of (pe_sections_of file header headers));
+    })
+
+-- a PE file begins with "MZ" (Microsoft, "PE Format", "MS-DOS Stub")
+abbrev pub file_of : List ℕ → Result FileView FileProblem
+file_of file = if starts_with nat_eq file (codes "MZ") then pe_of file else elf_of file
+
+-- registers that are all 0
+abbrev pub zero_aarch64 : RegistersAarch64
+zero_aarch64 = record { lr_mask = 2 ^ 64 - 1; lr = 0; sp = 0; fp = 0 }
+
+-- the text of a file by its machine: another machine than the two has none
+abbrev pub IsMachineText : FileView → List ℕ → List ℕ → Type 0
+IsMachineText file addresses text =
+    MatchBool (file.machine == EM_X86_64)
+    (IsModuleText x86_64_names (explaining_x86_64 with_allocation) (three 0 0 0) file.unwind_data addresses text)
+    (MatchBool (file.machine == EM_AARCH64)
+    (IsModuleText aarch64_names (explaining_aarch64 with_allocation) zero_aarch64 file.unwind_data addresses text) ⊥)
+
+-- a machine is neither of the two
+abbrev pub is_other : ℕ → Bool
+is_other machine = not (machine == EM_X86_64) && not (machine == EM_AARCH64)
+
+-- the text of a file
+abbrev pub IsFileText : Result FileView FileProblem → List ℕ → List ℕ → Type 0
+IsFileText (Ok file) addresses text = IsMachineText file addresses text
+IsFileText (Err refusal) addresses text = ⊥
+
+-- why a file has no text: it is not read, or is for another machine
+abbrev pub IsFileProblem : Result FileView FileProblem → FileProblem → Type 0
+IsFileProblem (Ok file) refusal = (is_other file.machine ≡ true) × (refusal ≡ problem.OtherMachine file.machine)
+IsFileProblem (Err error) refusal = refusal ≡ error
