@@ -6,9 +6,9 @@ ghost use Rattle.framehop_walk.specs.Runs.{input_path as path_named, IsRunOn, Op
 ghost use Rattle.framehop_walk.specs.Streams.{outputs};
 
 use crate::input::Input;
-use crate::output::Output;
 use crate::program::{refuse, walk_program};
 use crate::refusal::Refusal;
+use framehop_output::Output;
 use std::alloc::Global;
 use std::env::Args;
 use std::io;

@@ -26,7 +26,6 @@ pub mod commands;
 pub mod fields;
 mod input;
 mod lookup;
-mod output;
 mod printing;
 mod program;
 mod refusal;
@@ -36,8 +35,8 @@ pub mod sections;
 mod sharing;
 
 pub use command_line::run;
+pub use framehop_output::Output;
 pub use input::Input;
-pub use output::Output;
 pub use program::{refuse, replies_to_value, walk_program, write_whole};
 pub use refusal::Refusal;
 pub use sections::section_bytes;

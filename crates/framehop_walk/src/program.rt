@@ -16,7 +16,6 @@ ghost use Rattle.framehop_walk.specs.Reading.{IsAccepted};
 use crate::commands::read_command;
 use crate::fields::{count, has_bad_number, list, text};
 use crate::input::Input;
-use crate::output::Output;
 use crate::refusal::Refusal;
 use crate::registers::Registers;
 use crate::replies::print_reply;
@@ -27,6 +26,7 @@ use framehop::x86_64::ArchX86_64;
 use framehop::{
     AllocationPolicy, Generations, MayAllocateDuringUnwind, MustNotAllocateDuringUnwind,
 };
+use framehop_output::Output;
 use serde_json::Value;
 use std::alloc::{AllocError, Global};
 use std::io;

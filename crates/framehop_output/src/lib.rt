@@ -1,8 +1,17 @@
-//! A writer that keeps whether a write has failed, and whether what was written is flushed.
+//! A writer that keeps whether a write to it has failed: so that what writes through it can say that it returns an error of a
+//! write only where one failed.
+//!
+//! # Decisions
+//!
+//! - The fields are private, so that only a call that returns an error notes one.
+//! - What a writer holds after a write that failed is not known: a part of the bytes may have been
+//!   written.
+#![tactic(auto)]
+
 ghost use Rattle.std.specs.Prelude.{◌≡◌, is_err, is_ok, ◌||◌, OnOk, false};
 ghost use Rattle.std.specs.Io.{WritesAtMost};
 ghost use Rattle.std.specs.Io.KnownBytes.{Keeps, Appends, WriteAppends};
-ghost use Rattle.framehop_walk.specs.Streams.{output_over};
+ghost use Rattle.framehop_output.specs.Output.{output_over};
 
 use std::io;
 use std::io::Write;
@@ -18,7 +27,7 @@ pub struct Output<W: Write> {
 }
 
 impl<W: Write> Model for Output<W> {
-    ghost use Rattle.framehop_walk.specs.Streams.{OutputView};
+    ghost use Rattle.framehop_output.specs.Output.{OutputView};
 
     ghost Value = { OutputView };
 
@@ -26,7 +35,7 @@ impl<W: Write> Model for Output<W> {
 }
 
 impl<W: Write> Output<W> {
-    /// Over the writer, to which no write has failed.
+    /// Returns an output over a writer, to which no write has failed.
     pub fn new(writer: W) -> Self
         ensures { result ≡ output_over (W.contents writer) }
     {

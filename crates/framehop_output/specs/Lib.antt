@@ -1,0 +1,2 @@
+-- What the contracts of this crate cite: outputs, and what has failed.
+pub mod Output
