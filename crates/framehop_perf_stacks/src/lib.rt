@@ -48,6 +48,7 @@ pub mod recording;
 pub mod run;
 pub mod sample_json;
 pub mod sample_source;
+pub mod sample_stack;
 pub mod sample_text;
 mod sampled;
 pub mod stack;
