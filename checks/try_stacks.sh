@@ -171,7 +171,7 @@ made=$work/made
 mkdir "$made" || exit 1
 dumps=$work/dumps
 mkdir "$dumps" && python3 "$checks/stacks/made_up_dumps.py" "$data" "$dumps" || exit 1
-for case in cut short_comm short_fork lost files lines long build_ids chains kernel full vdso events jit threads deep forked; do
+for case in cut short_comm short_fork lost files lines long build_ids chains kernel full vdso events jit threads deep forked executed; do
     python3 "$checks/stacks/made_up_recording.py" "$made/$case.data" "$case" || exit 1
 done
 python3 - "$work" <<'END' || exit 1
@@ -213,6 +213,9 @@ work.joinpath("long.errors").write_text(unopened + f"/srv/{name[:2043]}...: it c
 work.joinpath("build_ids.folded").write_text("app;[frame-pointer-0];app+0x1203;app+0x1124 1\n")
 work.joinpath("build_ids.errors").write_text("/srv/app: there is no such file\n" + counted(1, 1))
 work.joinpath("lines.errors").write_text("/srv/app: there is no such file\n" + counted(70000, 0))
+run = ["app", "first", "parent"]
+work.joinpath("executed.folded").write_text("".join(f"{name};[frame-pointer-0];{name}+0x1203;{name}+0x1124 1\n" for name in run))
+work.joinpath("executed.errors").write_text("".join(f"/srv/{name}: there is no such file\n" for name in run) + counted(3, 3))
 work.joinpath("deep.folded").write_text("app;[limit];" + "app+0x1203;" * 511 + "app+0x1124 1\n")
 END
 python3 "$checks/stacks/summary.py" "$checks/stacks/tiny.frames" >"$work/tiny.summary" || exit 1
@@ -283,9 +286,9 @@ printf '%s\n' "$whole 1" 'app;[frame-pointer-0];app+0x1203;app+0x1128 2' >"$work
 printf '%s\n' 'app-200/200;[frame-pointer-0];app+0x1203;app+0x1124 1' 'other-200/200;[frame-pointer-0];other+0x203;[unknown] 1' >"$work/threads"
 # what calls what in checks/stacks/uncovered.s; in mix the word at rsp + 40 of a sample's copy is in odd or in work
 printf 'uncovered;_start;run;%s\n' 'aligned 10' 'odd;mix 11' 'work;mix 12' >"$work/uncovered.folded"
-printf '%s: there is no such file\n' /usr/bin/env /usr/lib/x86_64-linux-gnu/{ld-linux-x86-64.so.2,libc.so.6} >"$work/uncovered.summary"
+# (recorded by way of env, whose files no sample needs)
 printf '%s\n' '33 samples, 0 records lost by the kernel' '33 samples with frames that no unwind data tells' \
-    'how the stacks ended:' 'root 33' >>"$work/uncovered.summary"
+    'how the stacks ended:' 'root 33' >"$work/uncovered.summary"
 printf '%s\n' 'other;[frame-pointer-0];other+0x203;[unknown] 1' >"$work/other.folded"
 printf '\037\213\010' >"$work/gzip.data"
 mkdir -p "$work/mixed" && printf 'PERF\0' >"$work/mixed/a.data" && cp "$made/events.data" "$work/mixed/b.data" || exit 1
@@ -477,9 +480,11 @@ assert module["path"].endswith("/stripped/usr/local/bin/crash") and module["debu
     try_in "$made" 0 "$work/full.folded" "$work/full.errors" full.data
     try_in "$made" 0 "$work/full.blocks" any --frames --time 0.00000002, full.data
     try_in "$made" 0 "$work/vdso.folded" "$work/vdso.errors" vdso.data
-    # 512 frames at most; no file of a process without samples; the status of a folder is the greatest of its files
+    # 512 frames at most; no file of a process without samples, or of a program that ran without; the status of a folder is the
+    # greatest of its files
     try_in "$made" 0 "$work/deep.folded" any deep.data
     try_in "$made" 0 "$work/first" "$work/build_ids.errors" --root . forked.data
+    try_in "$made" 0 "$work/executed.folded" "$work/executed.errors" --root . executed.data
     try_in "$work" 1 "$work/all" any mixed
     # the samples of an event, of a time, of a thread
     try_in "$made" 0 "$work/all" any events.data

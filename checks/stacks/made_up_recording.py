@@ -22,6 +22,8 @@ order of their times. The cases, whose output `checks/try_stacks.sh` has:
     threads     a sample of each of two threads of a process
     deep        a sample whose stack has 601 frame records
     forked      a sample of a process that was forked off one that maps a file, and a process that maps another and has no sample
+    executed    a process that runs another program before its only sample, one that does so after it, and one that does so after it
+                has forked a process with a sample
     jit         samples in code of no file, for which `perf-300.map` of made_up_map.txt has names, and a process without such a map
 
 Layout: Linux, include/uapi/linux/perf_event.h, and tools/perf/Documentation/perf.data-file-format.txt.
@@ -265,7 +267,27 @@ def forked():
     return app() + [unsampled, fork(200, 100, 5), sample(200, 10, 0x10124, whole)]
 
 
-CASES = {"short_comm": short_comm, "short_fork": short_fork, "lost": lost_twice, "files": files, "lines": lines, "long": long, "build_ids": unread_build_ids, "chains": chains, "kernel": kernel, "full": full, "vdso": vdso, "events": events, "jit": jit, "threads": threads, "deep": deep, "forked": forked}
+def executed():
+    whole = [(STACK + 16, 0x10204), (0, 0x10300)]
+
+    def program(pid, name, time):
+        return [comm(pid, name, time, EXEC), mapping(pid, 0x10000, 0x3000, 0x1000, f"/srv/{name}", time + 1)]
+
+    return [
+        *program(100, "env", 1),
+        *program(100, "app", 3),
+        sample(100, 10, 0x10124, whole),
+        *program(200, "first", 20),
+        sample(200, 23, 0x10124, whole),
+        *program(200, "last", 24),
+        *program(300, "parent", 30),
+        fork(301, 300, 33),
+        *program(300, "unsampled", 34),
+        sample(301, 37, 0x10124, whole),
+    ]
+
+
+CASES = {"short_comm": short_comm, "short_fork": short_fork, "lost": lost_twice, "files": files, "lines": lines, "long": long, "build_ids": unread_build_ids, "chains": chains, "kernel": kernel, "full": full, "vdso": vdso, "events": events, "jit": jit, "threads": threads, "deep": deep, "forked": forked, "executed": executed}
 
 
 def event_names(names, ids):

@@ -1,11 +1,10 @@
 -- The labels of frames, by what the frames are and by where they are; the frames before the first that fails a test.
-use Rattle.std.proofs.Common.{◌≡◌, ◌+◌, ◌<◌, ◌∷◌, ◌++◌, List, [], ℕ, nat_lt, codes, if◌then◌else◌, Bool, false, map, take, drop, length, get_or, reverse, refl, ap, sym, ◌∙◌, arith}
+use Rattle.std.proofs.Common.{◌≡◌, ◌+◌, ◌<◌, ◌∷◌, ◌++◌, List, [], ℕ, Bool, false, map, take, drop, length, get_or, reverse, refl, ap, sym, ◌∙◌, arith}
 use Rattle.std.specs.List.{flat_map, prefix_len, take_while}
 use Rattle.std.proofs.lemmas.List.{at_drop_more, take-map}
 use mathlib.Core.List.{reverse_aux}
 use Rattle.std.proofs.lemmas.List.Folds.{flat_map-map}
-use Rattle.framehop_backtrace.specs.declared.frame.BacktraceEnd.{BacktraceEnd}
-use Rattle.framehop_frames.specs.Line.{ShownFrame, plain, mark, mark_of, part_of, line_of, frames_text}
+use Rattle.framehop_frames.specs.Line.{frames_text}
 
 reverse_aux-map : {A B : Type 0} (f : A → B) (xs ys : List A) → reverse_aux (map f xs) (map f ys) ≡ map f (reverse_aux xs ys)
 reverse_aux-map f [] ys = refl
@@ -25,10 +24,3 @@ cut-at p f items i d within so_far fails =
     let none : prefix_len p (map f (drop i items)) ≡ 0 = at_drop_more (λ rest. prefix_len p (map f rest)) items i d within ∙ (rw fails refl) in
     let size : prefix_len p (map f items) ≡ i = omega (arith, so_far, none) in
     sym (ap (λ n. take n (map f items)) size ∙ take-map f i items)
-
--- the line of a part of a stack is that of the stack
-pub line-of_part : (sure : Bool) (name : List ℕ) (end : BacktraceEnd) (label : ShownFrame → List ℕ) (part frames : List ShownFrame) (n m : ℕ)
-    → part ≡ part_of sure frames → n ≡ length part → m ≡ length frames
-    → plain name ++ (if nat_lt n m then mark (codes "not-sure") else mark_of end) ++ frames_text label part ≡ line_of sure name end label frames
-unfolding line_of
-line-of_part sure name end label part frames n m is few many = rw (few, many, is) refl

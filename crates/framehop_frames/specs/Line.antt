@@ -193,19 +193,6 @@ has_guess frames = list_any is_guess frames
 abbrev pub part_of : Bool → List ShownFrame → List ShownFrame
 part_of sure frames = if sure then take_while is_sure frames else frames
 
--- a stack that is cut before a frame that is not sure has a mark of its own
-abbrev pub mark_of_part : List ShownFrame → List ShownFrame → BacktraceEnd → List ℕ
-mark_of_part part frames end = if nat_lt (length part) (length frames) then mark (codes "not-sure") else mark_of end
-
--- the line of a stack: the name of its thread, the mark of its end, and its frames
-unfoldable pub line_of : Bool → List ℕ → BacktraceEnd → (ShownFrame → List ℕ) → List ShownFrame → List ℕ
-line_of sure name end label frames =
-    plain name ++ mark_of_part (part_of sure frames) frames end ++ frames_text label (part_of sure frames)
-
--- the line of a sample that has no stack: the name of its thread, and why
-unfoldable pub refused_line : List ℕ → List ℕ → List ℕ
-refused_line name why = plain name ++ mark why
-
 -- where an address of a file is that is in no function with a name
 abbrev pub unnamed_text : List ℕ → ℕ → List ℕ
 unnamed_text file address = codes "[unknown] (" ++ plain file ++ codes "+0x" ++ hexadecimal address ++ codes ")"
@@ -240,10 +227,6 @@ frame_line files mappings frame =
 -- the last line of a block, and a blank line
 abbrev pub last_line : List ℕ → List ℕ
 last_line end = codes "[" ++ end ++ codes "]\n\n"
-
--- the lines of a block after its head: the frames from the innermost on, and the end of the walk
-abbrev pub block_of : BacktraceEnd → (ShownFrame → List ℕ) → List ShownFrame → List ℕ
-block_of end line frames = flat_map line frames ++ last_line (end_text end)
 
 -- the head of a block: the name of the thread, its process and itself, and the time in nanoseconds, if there is one
 abbrev pub time_text : Option ℕ → List ℕ

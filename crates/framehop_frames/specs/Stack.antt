@@ -1,15 +1,13 @@
--- The stack of a thread at a time, by its values, and its text.
-use Rattle.std.specs.Prelude.{ℕ, ◌+◌, Bool, true, false, Option, Some, None, List, ◌++◌, map, length, codes}
+-- The stack of a thread at a time, by its values.
+use Rattle.std.specs.Prelude.{ℕ, ◌+◌, Option, Some, None, List, map, length, codes}
 use Rattle.framehop_core.specs.CodeAddress.{FrameLocation, location_of}
 use Rattle.framehop_core.specs.Memory.{Memory}
 use Rattle.framehop.specs.Modules.{ModuleView}
-use Rattle.framehop_processes.specs.declared.mapping.Mapping.{Mapping}
 use Rattle.framehop_backtrace.specs.Backtrace.{Backtrace, FrameView}
 use Rattle.framehop_backtrace.specs.Code.{Code, is_in_trampoline}
 use Rattle.framehop_backtrace.specs.Rows.{Finding}
 use Rattle.framehop_backtrace.specs.declared.frame.BacktraceEnd.{BacktraceEnd}
-use Rattle.framehop_symbols.specs.declared.files.Files.{Files}
-use Rattle.framehop_frames.specs.Line.{ShownFrame, line_of, refused_line, frame_label, frame_line, block_of, last_line}
+use Rattle.framehop_frames.specs.Line.{ShownFrame}
 use Rattle.framehop_frames.specs.Missing.{end_of_walk}
 use Rattle.framehop_frames.specs.Walker.{Walker, backtrace_from}
 use Rattle.framehop_frames.specs.declared.machine.Start.{Start}
@@ -53,10 +51,3 @@ option_stack_view None = no_stack (codes "no-registers")
 abbrev pub line_count : StackView → ℕ
 line_count (walked frames end) = length frames + 3
 line_count (no_stack why) = 3
-
--- its text: a block after its head, or else a folded line, of all frames or (`true`) of those that are sure
-abbrev pub stack_text : Bool → Bool → Files → List ℕ → List ℕ → List Mapping → StackView → List ℕ
-stack_text true sure files name head mappings (walked frames end) = head ++ block_of end (frame_line files mappings) frames
-stack_text true sure files name head mappings (no_stack why) = head ++ last_line why
-stack_text false sure files name head mappings (walked frames end) = line_of sure name end (frame_label files mappings) frames
-stack_text false sure files name head mappings (no_stack why) = refused_line name why

@@ -9,10 +9,10 @@ ghost use Rattle.framehop_processes.specs.Mappings.{IsInOrder};
 ghost use Rattle.framehop_symbols.specs.Place.{place_view};
 ghost use Rattle.framehop_frames.specs.Stack.{shown_frame};
 ghost use Rattle.framehop_frames.specs.Unseen.{has_unseen_after};
-ghost use Rattle.framehop_frames.specs.Line.{is_text, hex_digit, is_changed, is_escaped, printed_byte, printed, plain, base_name, hexadecimal, label_of, unnamed_text, refusal_name, end_name, is_sure_by, is_guess, has_guess, part_of, mark_of_part, address_of_end, end_text, mark, mark_of, frames_text, frame_label, line_of, refused_line, described, found_text, trampoline_text, frame_line, last_line, block_of, time_text, head_of};
+ghost use Rattle.framehop_frames.specs.Line.{is_text, hex_digit, is_changed, is_escaped, printed_byte, printed, plain, base_name, hexadecimal, label_of, unnamed_text, refusal_name, end_name, is_sure_by, is_guess, has_guess, part_of, address_of_end, end_text, mark, mark_of, frames_text, frame_label, described, found_text, trampoline_text, frame_line, last_line, time_text, head_of};
 
 use crate::place::frame_place;
-use crate::stack::{Stack, StackFrame};
+use crate::stack::StackFrame;
 use crate::unseen::has_unseen;
 use framehop::Error;
 use framehop_backtrace::{BacktraceEnd, FoundBy};
@@ -35,28 +35,8 @@ pub fn printed_name(alloc: Global, name: &[u8]) -> Result<Vec<u8>, AllocError>
     Ok(printed)
 }
 
-/// Returns the line of a stack without its count, by the name of its thread and by its process's mappings
-/// in order. Only the frames before the first that is not sure are in it, where `sure` asks for that.
-pub fn folded_line<R: Copy>(
-    alloc: Global,
-    files: &Files<'_>,
-    mappings: &[Mapping],
-    name: &[u8],
-    stack: &Stack<R>,
-    sure: bool,
-) -> Result<Vec<u8>, AllocError>
-    requires { IsInOrder 0 mappings.now }
-    ensures { IfOk result (λ line. line.items ≡ line_of sure name.now stack.now.end
-        (frame_label files.now mappings.now) (map shown_frame stack.now.frames.items)) }
-{
-    let frames = stack.frames.as_slice();
-    let part = part_of(frames, sure);
-    let is_cut = part.len() < frames.len();
-    line_of_part(alloc, files, mappings, name, part, stack.end, is_cut)
-}
-
 /// Returns the frames of a folded stack: all, or those before the first that is not sure.
-fn part_of<R: Copy>(frames: &[StackFrame<R>], sure: bool) -> &[StackFrame<R>]
+pub fn part_of<R: Copy>(frames: &[StackFrame<R>], sure: bool) -> &[StackFrame<R>]
     ensures { map shown_frame result.now ≡ part_of sure (map shown_frame frames.entry.now) }
 {
     if sure {
@@ -112,40 +92,8 @@ fn is_guess<R: Copy>(frame: &StackFrame<R>) -> bool
     }
 }
 
-/// Returns the line of a part of a stack, which may be cut, by the name of its thread and by its process's mappings in
-/// order.
-fn line_of_part<R: Copy>(
-    alloc: Global,
-    files: &Files<'_>,
-    mappings: &[Mapping],
-    name: &[u8],
-    part: &[StackFrame<R>],
-    end: BacktraceEnd,
-    is_cut: bool,
-) -> Result<Vec<u8>, AllocError>
-    requires { IsInOrder 0 mappings.now }
-    ensures { IfOk result (λ line. line.items ≡ plain name.now ++ (if is_cut then mark (codes "not-sure") else mark_of end)
-        ++ frames_text (frame_label files.now mappings.now) (map shown_frame part.now)) }
-{
-    let mut line = Vec::new(alloc);
-    push_name(&mut line, name)?;
-    push_end_of_part(&mut line, end, is_cut)?;
-    push_frames(alloc, &mut line, files, mappings, part)?;
-    Ok(line)
-}
-
-/// Appends the mark of a stack: of its end, or that it is cut before a frame that is not sure.
-fn push_end_of_part(line: &mut Vec<u8>, end: BacktraceEnd, is_cut: bool) -> Result<(), AllocError>
-    ensures { OnOk result (line.new.items ≡ line.old.items ++ (if is_cut then mark (codes "not-sure") else mark_of end)) }
-{
-    if is_cut {
-        return push_mark(line, "not-sure");
-    }
-    push_end(line, end)
-}
-
 /// Appends the mark of a walk that did not reach the root.
-fn push_end(line: &mut Vec<u8>, end: BacktraceEnd) -> Result<(), AllocError>
+pub fn push_end(line: &mut Vec<u8>, end: BacktraceEnd) -> Result<(), AllocError>
     ensures { OnOk result (line.new.items ≡ line.old.items ++ mark_of end) }
 {
     match end {
@@ -155,7 +103,7 @@ fn push_end(line: &mut Vec<u8>, end: BacktraceEnd) -> Result<(), AllocError>
 }
 
 /// Appends the frames of a stack from the outermost on, each after a `;`.
-fn push_frames<R: Copy>(
+pub fn push_frames<R: Copy>(
     alloc: Global,
     line: &mut Vec<u8>,
     files: &Files<'_>,
@@ -164,7 +112,7 @@ fn push_frames<R: Copy>(
 ) -> Result<(), AllocError>
     requires { IsInOrder 0 mappings.now }
     ensures { OnOk result (line.new.items ≡ line.old.items
-        ++ frames_text (λ frame. frame_label files.now mappings.now (shown_frame frame)) frames.now) }
+        ++ frames_text (frame_label files.now mappings.now) (map shown_frame frames.now)) }
 {
     for frame in frames.iter().rev() {
         line.push(b';')?;
@@ -225,19 +173,8 @@ fn base_name(path: &[u8]) -> &[u8]
     &path[start..]
 }
 
-/// Returns the line of a sample that has no stack, without its count, by the name of its thread.
-#[tactic(auto, unfolding(crate::specs::Line::refused_line))]
-pub fn refused_line(alloc: Global, name: &[u8], why: &str) -> Result<Vec<u8>, AllocError>
-    ensures { IfOk result (λ line. line.items ≡ refused_line name.now why.now) }
-{
-    let mut line = Vec::new(alloc);
-    push_name(&mut line, name)?;
-    push_mark(&mut line, why)?;
-    Ok(line)
-}
-
 /// Appends a mark after a `;`.
-fn push_mark(line: &mut Vec<u8>, name: &str) -> Result<(), AllocError>
+pub fn push_mark(line: &mut Vec<u8>, name: &str) -> Result<(), AllocError>
     ensures { OnOk result (line.new.items ≡ line.old.items ++ mark name.now) }
 {
     line.extend_from_slice(b";[")?;
@@ -246,25 +183,8 @@ fn push_mark(line: &mut Vec<u8>, name: &str) -> Result<(), AllocError>
     Ok(())
 }
 
-/// Returns the lines of a stack's frames and of its end, by its process's mappings in order.
-pub fn frames_block<R: Copy>(
-    alloc: Global,
-    files: &Files<'_>,
-    mappings: &[Mapping],
-    stack: &Stack<R>,
-) -> Result<Vec<u8>, AllocError>
-    requires { IsInOrder 0 mappings.now }
-    ensures { IfOk result (λ block. block.items ≡ block_of stack.now.end
-        (frame_line files.now mappings.now) (map shown_frame stack.now.frames.items)) }
-{
-    let mut block = Vec::new(alloc);
-    push_frame_lines(alloc, &mut block, files, mappings, stack.frames.as_slice())?;
-    push_last_line(&mut block, end_text(alloc, stack.end)?.as_slice())?;
-    Ok(block)
-}
-
 /// Appends the lines of a stack's frames, the innermost first, by mappings in order.
-fn push_frame_lines<R: Copy>(
+pub fn push_frame_lines<R: Copy>(
     alloc: Global,
     block: &mut Vec<u8>,
     files: &Files<'_>,
@@ -273,7 +193,7 @@ fn push_frame_lines<R: Copy>(
 ) -> Result<(), AllocError>
     requires { IsInOrder 0 mappings.now }
     ensures { OnOk result (block.new.items ≡ block.old.items
-        ++ flat_map (λ frame. frame_line files.now mappings.now (shown_frame frame)) frames.now) }
+        ++ flat_map (frame_line files.now mappings.now) (map shown_frame frames.now)) }
 {
     for frame in frames {
         push_frame_line(alloc, block, files, mappings, frame)?;
@@ -374,7 +294,7 @@ fn found_text(found: FoundBy) -> &'static str
 }
 
 /// Returns what the end of a walk is called, with its address, if it has one.
-pub(crate) fn end_text(alloc: Global, end: BacktraceEnd) -> Result<Vec<u8>, AllocError>
+pub fn end_text(alloc: Global, end: BacktraceEnd) -> Result<Vec<u8>, AllocError>
     ensures { IfOk result (λ text. text.items ≡ end_text end) }
 {
     let mut text = Vec::from_slice(alloc, end_name(end).as_bytes())?;
@@ -439,7 +359,7 @@ pub fn refused_block(alloc: Global, why: &str) -> Result<Vec<u8>, AllocError>
 }
 
 /// Appends the last line of a block, and a blank line.
-pub(crate) fn push_last_line(block: &mut Vec<u8>, end: &[u8]) -> Result<(), AllocError>
+pub fn push_last_line(block: &mut Vec<u8>, end: &[u8]) -> Result<(), AllocError>
     ensures { OnOk result (block.new.items ≡ block.old.items ++ last_line end.now) }
 {
     block.extend_from_slice(b"[")?;

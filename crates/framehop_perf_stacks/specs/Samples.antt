@@ -1,5 +1,5 @@
 -- The samples of a recording one after another, and what is told of each: a block or a folded line.
-use Rattle.std.specs.Prelude.{◌≡◌, ◌<◌, ℕ, zero, suc, ◌+◌, ◌-◌, ◌^◌, min, length, not, unwrap_or, Bool, true, false, ◌&&◌, ◌||◌, nat_eq, nat_le, List, [], ◌∷◌, ◌++◌, codes, decimal, map, count_by, Option, Some, None, Result, Ok, Err, ◌==◌, if◌then◌else◌}
+use Rattle.std.specs.Prelude.{◌≡◌, ℕ, zero, suc, ◌+◌, ◌-◌, ◌^◌, min, length, not, unwrap_or, Bool, true, false, ◌&&◌, ◌||◌, nat_eq, nat_lt, nat_le, List, [], ◌∷◌, ◌++◌, codes, decimal, map, count_by, Option, Some, None, Result, Ok, Err, ◌==◌, if◌then◌else◌}
 use Rattle.std.specs.BTreeMap.{BTreeMap}
 use Rattle.std.specs.Cmp.Lexicographic.{pointwise}
 use Rattle.std.specs.Io.KnownBytes.{Appends}
@@ -31,13 +31,12 @@ use Rattle.framehop_core.specs.declared.error.Error.TheVariants.{CouldNotReadSta
 use Rattle.framehop_backtrace.specs.declared.frame.FoundBy.{FoundBy}
 use Rattle.framehop_frames.specs.Explained.{shown_with}
 use Rattle.framehop_frames.specs.JsonFrames.{frames_data}
-use Rattle.framehop_frames.specs.Line.{ShownFrame, head_of, address_of_end, end_name, has_guess, part_of, line_of, refused_line, frame_label, frame_line, last_line}
+use Rattle.framehop_frames.specs.Line.{ShownFrame, plain, head_of, address_of_end as address_of_walk, address_text, end_name, has_guess, mark, mark_of, part_of, frames_text, frame_label, frame_line, last_line}
 use Rattle.framehop_backtrace.specs.Code.{Code}
 use Rattle.framehop_frames.specs.Code.{bytes_after, code_of}
 use Rattle.framehop_frames.specs.Notes.{NotedStack, noted_from, AreStackNotes}
 use Rattle.framehop_frames.specs.Rows.{rows_in}
-use Rattle.framehop_frames.specs.Stack.{StackView, walked, no_stack, shown_frame, stack_from, stack_text}
-use Rattle.framehop_frames.specs.declared.stack.Stack.{Stack}
+use Rattle.framehop_frames.specs.Stack.{StackView, walked, no_stack, shown_frame, stack_from}
 use Rattle.framehop_frames.specs.Walker.{Walker}
 use Rattle.framehop_perf_stacks.specs.Ended.{drawn_in}
 use Rattle.framehop_perf_stacks.specs.Json.{told_if, time_if, thread_members, stack_members, rest_text, counted_line}
@@ -53,6 +52,10 @@ use Rattle.framehop_frames.specs.declared.machine.Start.{Start}
 use Rattle.framehop_perf_stacks.specs.declared.names.Names.{Names}
 use Rattle.framehop_perf_stacks.specs.declared.processes.MappedProcess.{MappedProcess}
 use Rattle.framehop_perf_stacks.specs.declared.run.Options.{Options}
+use Rattle.framehop_perf_stacks.specs.declared.sample_stack.SampleAt.{SampleAt}
+use Rattle.framehop_perf_stacks.specs.declared.sample_stack.EndedStack.{EndedStack}
+use Rattle.framehop_perf_stacks.specs.declared.sample_stack.StackEnd.{StackEnd}
+use Rattle.framehop_perf_stacks.specs.declared.sample_stack.StackEnd.TheVariants.{Walked, CallChain, NoStack}
 
 -- what the records before a place lead to: the names of threads, and the mappings of processes
 pub record State : Type 0 where
@@ -135,20 +138,35 @@ abbrev pub NotedIf : Bool → (List (List ℕ) → Type 0) → List (List ℕ) �
 NotedIf true are_notes notes = are_notes notes
 NotedIf false are_notes notes = notes ≡ []
 
--- the stack of a sample: of a walk, by where the copy of the stack begins, or of its call chain
-pub data SampleStack : Type 0 where
-  of_walk : ℕ → StackView → SampleStack
-  of_chain : List ShownFrame → SampleStack
+-- How the stack of a sample ends: as a walk did over a copy that begins at an address, or as a call chain does, of which no
+-- end is told; or there is none, and why.
+pub data SampleEnd : Type 0 where
+  of_walk : ℕ → BacktraceEnd → SampleEnd
+  of_chain : SampleEnd
+  of_none : List ℕ → SampleEnd
 
--- what stands for a stack that can't be read
-abbrev pub unread_stack : RecordingError → List ShownFrame → SampleStack
-unread_stack refusal [] = of_walk 0 (no_stack (sample_refusal refusal))
-unread_stack refusal (frame ∷ frames) = of_chain (frame ∷ frames)
+abbrev pub end_of : StackEnd → SampleEnd
+end_of (Walked base end) = of_walk base end
+end_of CallChain = of_chain
+end_of (NoStack why) = of_none why.now
 
--- a stack is that of the frames of a chain, if there are some
-abbrev pub IsStackOfChain : List ShownFrame → Option (Stack (Unit {0})) → Type 0
-IsStackOfChain frames (Some stack) = (map shown_frame stack.frames.items ≡ frames) × (stack.end ≡ Root) × (0 < length frames)
-IsStackOfChain frames None = frames ≡ []
+-- the stack of a sample: its frames, the innermost first, and how it ends
+pub record SampleStack : Type 0 where
+  pub frames : List ShownFrame
+  pub end : SampleEnd
+
+abbrev pub stack_of : {Regs : Type 0} → EndedStack Regs → SampleStack
+stack_of stack = record { frames = map shown_frame stack.frames.now; end = end_of stack.end }
+
+-- the stack of a walk over a copy that begins at an address
+abbrev pub walked_over : ℕ → StackView → SampleStack
+walked_over base (walked frames end) = record { frames = frames; end = of_walk base end }
+walked_over base (no_stack why) = record { frames = []; end = of_none why }
+
+-- what stands for a stack that can't be read: the frames of a call chain, if it has some
+abbrev pub unread_stack : List ℕ → List ShownFrame → SampleStack
+unread_stack why [] = record { frames = []; end = of_none why }
+unread_stack why (frame ∷ frames) = record { frames = frame ∷ frames; end = of_chain }
 
 -- `is_note`: a note is that of a frame, among modules and over a memory
 module _ {Regs : Type 0} (walker : Walker Regs)
@@ -165,10 +183,10 @@ module _ {Regs : Type 0} (walker : Walker Regs)
       → SampleStack → List (List ℕ) → Type 0
   IsUserStack mappings modules mask chain (Ok user) stack notes =
       (start : Option (Start Regs)) × starts modules mask user.registers start
-      × (stack ≡ of_walk (base_of start) (sampled_from walker limit files mappings modules user.stack start))
+      × (stack ≡ walked_over (base_of start) (sampled_from walker limit files mappings modules user.stack start))
       × NotedIf explained (AreSampleNotes mappings modules user.stack start) notes
   IsUserStack mappings modules mask chain (Err refusal) stack notes =
-      (stack ≡ unread_stack refusal (frames_of_chain refusal chain)) × (notes ≡ [])
+      (stack ≡ unread_stack (sample_refusal refusal) (frames_of_chain refusal chain)) × (notes ≡ [])
 
   -- the same of a sample with the mask of its registers: its modules are those of its process's mappings
   abbrev pub IsSampleStack : (Mapping → ModuleView) → Mapped → Result (SampleView × ℕ) RecordingError → SampleStack
@@ -176,7 +194,7 @@ module _ {Regs : Type 0} (walker : Walker Regs)
   IsSampleStack module_of mapped (Ok sample) stack notes =
       IsUserStack (mapped sample.0.pid) (map module_of (mapped sample.0.pid)) sample.1 sample.0.chain sample.0.user stack notes
   IsSampleStack module_of mapped (Err refusal) stack notes =
-      (stack ≡ of_walk 0 (no_stack (sample_refusal refusal))) × (notes ≡ [])
+      (stack ≡ unread_stack (sample_refusal refusal) []) × (notes ≡ [])
 
 -- The name of a thread in a folded stack. Where threads are told apart, its process and itself are after the name, as
 -- `stackcollapse-perf.pl --tid` of FlameGraph has them.
@@ -222,71 +240,61 @@ pub record Told : Type 0 where
   pub is_cut : Bool
   pub in_vdso : Bool
 
--- how the walk of a stack ended, or why there is none
-abbrev pub end_of : StackView → List ℕ
-end_of (walked frames end) = end_name end
-end_of (no_stack why) = why
+-- what the end of a stack is called, and with the address at which it ended, if it ended at one
+abbrev pub name_of_end : SampleEnd → List ℕ
+name_of_end (of_walk base end) = end_name end
+name_of_end of_chain = codes "callchain"
+name_of_end (of_none why) = why
 
--- unwind data tells all frames of a stack: none is after the first that is not sure
-abbrev pub is_sure_stack : StackView → Bool
-is_sure_stack (walked frames end) = length (part_of true frames) == length frames
-is_sure_stack (no_stack why) = true
+abbrev pub address_of_end : SampleEnd → Option ℕ
+address_of_end (of_walk base end) = address_of_walk end
+address_of_end of_chain = None
+address_of_end (of_none why) = None
 
--- the text of a call chain, which has a mark in the place of the end of a walk
-abbrev pub chain_text : Bool → Bool → Files → List ℕ → List ℕ → List Mapping → List ShownFrame → List ℕ
-chain_text true sure files name head mappings frames =
-    head ++ flat_map (frame_line files mappings) frames ++ last_line (codes "callchain")
-chain_text false sure files name head mappings frames =
-    refused_line name (codes "callchain") ++ line_of sure [] Root (frame_label files mappings) frames
+abbrev pub text_of_end : SampleEnd → List ℕ
+text_of_end end = name_of_end end ++ address_text (address_of_end end)
 
-abbrev pub sample_text : Bool → Bool → Files → List ℕ → List ℕ → List Mapping → SampleStack → List ℕ
-sample_text frames sure files name head mappings (of_walk base stack) = stack_text frames sure files name head mappings stack
-sample_text frames sure files name head mappings (of_chain chain) = chain_text frames sure files name head mappings chain
+-- The mark of a walk in a folded stack: of its end, or (`true`) that the stack is cut before a frame that is not sure.
+abbrev pub mark_of_part : BacktraceEnd → Bool → List ℕ
+mark_of_part end cut = if cut then mark (codes "not-sure") else mark_of end
 
-abbrev pub sample_end : SampleStack → List ℕ
-sample_end (of_walk base stack) = end_of stack
-sample_end (of_chain frames) = codes "callchain"
+-- that of an end: a call chain is marked before what is cut of it
+abbrev pub mark_of_end : SampleEnd → Bool → List ℕ
+mark_of_end (of_walk base end) cut = mark_of_part end cut
+mark_of_end of_chain cut = mark (codes "callchain") ++ mark_of_part Root cut
+mark_of_end (of_none why) cut = mark why
 
--- the address at which it ended, if it ended at one
-abbrev pub sample_end_address : SampleStack → Option ℕ
-sample_end_address (of_walk base (walked frames end)) = address_of_end end
-sample_end_address (of_walk base (no_stack why)) = None
-sample_end_address (of_chain frames) = None
+-- a folded stack: the name of a thread, the mark of the end, and the frames, all or (`true`) those that are sure
+abbrev pub folded_stack : Bool → Files → List ℕ → List Mapping → SampleStack → List ℕ
+folded_stack sure files name mappings stack =
+    let part = part_of sure stack.frames in
+    plain name ++ mark_of_end stack.end (nat_lt (length part) (length stack.frames))
+    ++ frames_text (frame_label files mappings) part
 
-abbrev pub sample_frames : SampleStack → List ShownFrame
-sample_frames (of_walk base (walked frames end)) = frames
-sample_frames (of_walk base (no_stack why)) = []
-sample_frames (of_chain frames) = frames
+-- the lines of a block after its head: the frames from the innermost on, and the end
+abbrev pub block_of : Files → List Mapping → SampleStack → List ℕ
+block_of files mappings stack = flat_map (frame_line files mappings) stack.frames ++ last_line (text_of_end stack.end)
 
 -- its JSON, by the members of its thread, but for its count
 abbrev pub json_text : Files → List Mapping → SampleStack → Members → List ℕ
 json_text files mappings stack who = rest_text (
-    stack_members (sample_end stack) (sample_end_address stack)
-    (array (items_of (frames_data files mappings (sample_frames stack)))) who)
+    stack_members (name_of_end stack.end) (address_of_end stack.end)
+    (array (items_of (frames_data files mappings stack.frames))) who)
 
 -- what is counted: a folded stack with what ends it, or its JSON (`true`)
 abbrev pub line_by : Bool → Bool → Files → List ℕ → Members → List ℕ → List Mapping → SampleStack → List ℕ
 line_by true sure files name who tail mappings stack = json_text files mappings stack who
-line_by false sure files name who tail mappings stack = sample_text false sure files name [] mappings stack ++ tail
+line_by false sure files name who tail mappings stack = folded_stack sure files name mappings stack ++ tail
 
 -- what is shown: a block, with notes where it is to be explained, or a line of JSON (`true`)
 abbrev pub shown_by : Bool → Bool → List (List ℕ) → Files → List ℕ → Members → List Mapping → SampleStack → List ℕ
 shown_by true explain notes files head who mappings stack = counted_line 1 (json_text files mappings stack who)
 shown_by false explain notes files head who mappings stack =
-    shown_with explain notes (sample_text true false files [] head mappings stack)
+    shown_with explain notes (head ++ block_of files mappings stack)
 
-abbrev pub is_sure_sample : SampleStack → Bool
-is_sure_sample (of_walk base stack) = is_sure_stack stack
-is_sure_sample (of_chain frames) = length (part_of true frames) == length frames
-
--- a frame of a stack is a guess
-abbrev pub is_guessed_stack : StackView → Bool
-is_guessed_stack (walked frames end) = has_guess frames
-is_guessed_stack (no_stack why) = false
-
-abbrev pub is_guessed_sample : SampleStack → Bool
-is_guessed_sample (of_walk base stack) = is_guessed_stack stack
-is_guessed_sample (of_chain frames) = false
+-- unwind data tells all frames of a stack: none is after the first that is not sure
+abbrev pub is_sure_stack : SampleStack → Bool
+is_sure_stack stack = length (part_of true stack.frames) == length stack.frames
 
 -- how many bytes of a stack the kernel copies at most, and perf asks for: a multiple of 8 below 2^16
 -- (`sample_stack_user` of `struct perf_event_attr`, include/uapi/linux/perf_event.h)
@@ -303,10 +311,10 @@ is_end_of_copy base (Refused (CouldNotReadStack address)) = is_in_larger_copy ba
 is_end_of_copy base end = false
 
 -- a stack is cut: its walk ended so, and its copy is full
-abbrev pub is_cut_sample : Bool → SampleStack → Bool
-is_cut_sample full (of_walk base (walked frames end)) = full && is_end_of_copy base end
-is_cut_sample full (of_walk base (no_stack why)) = false
-is_cut_sample full (of_chain frames) = false
+abbrev pub is_cut : Bool → SampleEnd → Bool
+is_cut full (of_walk base end) = full && is_end_of_copy base end
+is_cut full of_chain = false
+is_cut full (of_none why) = false
 
 -- what is told of a stack with notes, by the name of its thread, the head of its block, its thread in JSON, what ends its
 -- folded stack, the mappings of its process, and whether its copy is full
@@ -315,11 +323,11 @@ abbrev pub stack_told : Options → Files → List ℕ → List ℕ → Members 
 stack_told options files name head who tail mappings full stack notes = record {
   text = line_by options.json options.sure files name who tail mappings stack;
   shown = shown_by options.json options.explain notes files head who mappings stack;
-  end = sample_end stack;
-  is_sure = is_sure_sample stack;
-  has_guess = is_guessed_sample stack;
-  is_cut = is_cut_sample full stack;
-  in_vdso = has_unread_vdso files mappings (sample_frames stack);
+  end = name_of_end stack.end;
+  is_sure = is_sure_stack stack;
+  has_guess = has_guess stack.frames;
+  is_cut = is_cut full stack.end;
+  in_vdso = has_unread_vdso files mappings stack.frames;
 }
 
 -- the copy of a sample's stack is full
@@ -337,11 +345,8 @@ told_by options files name sample mappings stack notes =
     stack_told options files (folded_name options.by_thread name sample) (head_text options name sample)
     (thread_told options name sample) (tail_text options sample) mappings (is_copy_full sample) stack notes
 
-abbrev pub line_told : Options → Files → List ℕ → Option Sample → List Mapping → SampleStack → List ℕ
-line_told options files name sample mappings stack = (told_by options files name sample mappings stack []).text
-
-abbrev pub shown_told : Options → Files → List ℕ → Option Sample → List Mapping → SampleStack → List (List ℕ) → List ℕ
-shown_told options files name sample mappings stack notes = (told_by options files name sample mappings stack notes).shown
+abbrev pub told_of : SampleAt → SampleStack → List (List ℕ) → Told
+told_of at stack notes = told_by at.options at.files.now at.name.now at.sample at.mappings.now stack notes
 
 -- the same by the name of its thread and the mappings of its process
 abbrev pub sample_told : Options → Files → State → Result (SampleView × ℕ) RecordingError → SampleStack → List (List ℕ) → Told

@@ -1,13 +1,12 @@
 //! The frames of a call chain.
 ghost use Rattle.std.specs.Prelude.{◌≡◌, ◌++◌, map, IfOk, OnOk};
-ghost use Rattle.framehop_backtrace.specs.declared.frame.BacktraceEnd.TheVariants.{Root};
 ghost use Rattle.framehop_core.specs.CodeAddress.{location_of};
 ghost use Rattle.framehop_frames.specs.Stack.{shown_frame};
 ghost use Rattle.framehop_perf_stacks.specs.Chain.{caller_at, chain_locations, caller_shown, chain_frames};
 
-use framehop_backtrace::{BacktraceEnd, FoundBy};
+use framehop_backtrace::FoundBy;
 use framehop_core::code_address::FrameAddress;
-use framehop_frames::stack::{Stack, StackFrame};
+use framehop_frames::stack::StackFrame;
 use std::alloc::{AllocError, Global};
 
 /// Returns where the frames of a chain are, by its addresses from the innermost on.
@@ -46,20 +45,11 @@ fn caller_at(address: u64) -> FrameAddress
     }
 }
 
-/// Returns the stack of a chain, by its addresses from the innermost on. The kernel finds each caller by the frame pointer.
-pub(crate) fn chain_stack(alloc: Global, addresses: &[u64]) -> Result<Stack<()>, AllocError>
-    ensures { IfOk result (λ stack. (map shown_frame stack.frames.items ≡ chain_frames addresses.now) × (stack.end ≡ Root)) }
-{
-    let frames = frames_of(alloc, addresses)?;
-    Ok(Stack {
-        frames,
-        end: BacktraceEnd::Root,
-        step_end: BacktraceEnd::Root,
-    })
-}
-
-/// Returns the frames of a chain.
-fn frames_of(alloc: Global, addresses: &[u64]) -> Result<Vec<StackFrame<()>>, AllocError>
+/// Returns the frames of a chain, by its addresses from the innermost on. The kernel finds each caller by the frame pointer.
+pub(crate) fn chain_frames(
+    alloc: Global,
+    addresses: &[u64],
+) -> Result<Vec<StackFrame<()>>, AllocError>
     ensures { IfOk result (λ frames. map shown_frame frames.items ≡ chain_frames addresses.now) }
 {
     let mut frames = Vec::new(alloc);

@@ -3,9 +3,9 @@
 //!
 //! # Decisions
 //!
-//! - Three passes: the first, from the last record on, tells which processes are unwound, the second
-//!   reads the files that these map, and the third makes the changes and walks, so that what makes
-//!   modules stays as it is while processes change.
+//! - Three passes: the first, from the last record on, tells which mappings are there at samples, the
+//!   second reads their files, and the third makes the changes and walks, so that what makes modules
+//!   stays as it is while processes change.
 //! - Of a recording in a file all records are kept but the bodies of samples, of which the front
 //!   is, with event, time and thread; each body is read when its sample is unwound, from a source
 //!   that may give anything (`SampleSource`). What is before and after the records is read as a
@@ -48,6 +48,7 @@ pub mod recording;
 pub mod run;
 pub mod sample_json;
 pub mod sample_source;
+pub mod sample_stack;
 pub mod sample_text;
 mod sampled;
 pub mod stack;

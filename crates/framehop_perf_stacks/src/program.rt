@@ -26,7 +26,7 @@ use crate::machine::Sampled;
 use crate::perf_map::MapSource;
 use crate::problems::problems_text;
 use crate::recording::{Recording, is_aarch64, read_files, read_recording};
-use crate::run::{Options, Run};
+use crate::run::{Input, Options, Run};
 use crate::sample_source::{InMemory, SampleSource};
 use framehop::aarch64::UnwinderAarch64;
 use framehop::cache::MustNotAllocateDuringUnwind;
@@ -191,7 +191,14 @@ where
     ensures unwritten { OnErr result (out.new ≡ out.old) }
 {
     let mut run: Run<U> = Run::new(alloc)?;
-    let taken = run.take_records(alloc, recording, files, maker, samples, options, out);
+    let input = Input {
+        recording,
+        files,
+        maker,
+        samples,
+        options,
+    };
+    let taken = run.take_records(alloc, &input, out);
     let counted = write_counts(err, &run.counts);
     let ended = match counted.and(taken) {
         Ok(()) => Ok(recording.refusal),

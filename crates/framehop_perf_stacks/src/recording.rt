@@ -1,5 +1,5 @@
 //! What is read of a recording before its samples are unwound.
-ghost use Rattle.std.specs.Prelude.{◌≡◌, ◌^◌, ◌⊎◌, ℕ, Bool, Ok, Err, IfOk, IfErr, OnOk, MatchResult, List, map, option_map};
+ghost use Rattle.std.specs.Prelude.{◌≡◌, ◌^◌, ◌⊎◌, ℕ, Bool, Ok, Err, IfOk, IfErr, OnOk, MatchResult, List, map};
 ghost use Rattle.std.specs.List.{list_any};
 ghost use Rattle.framehop_recording.specs.Attributes.{attribute_view};
 ghost use Rattle.framehop_recording.specs.BuildIds.{FileBuildIdView, file_build_id_view};
@@ -9,17 +9,14 @@ ghost use Rattle.framehop_recording.specs.Numbers.{PERF_REG_ARM64_PC};
 ghost use Rattle.framehop_recording.specs.Records.{record_view};
 ghost use Rattle.framehop_recording.specs.Sample.{sample_view};
 ghost use Rattle.framehop_recording.specs.declared.error.RecordingError.{RecordingError};
-ghost use Rattle.framehop_perf_stacks.specs.Changes.{code_mapping_in};
-ghost use Rattle.framehop_perf_stacks.specs.Files.{build_id_in, HasBuildIds, wanted_for, of_process, IsAddedFor, AreFilesOf};
+ghost use Rattle.framehop_perf_stacks.specs.Files.{build_id_in, HasBuildIds, wanted_for, IsAddedFor, AreFilesOf};
 ghost use Rattle.framehop_perf_stacks.specs.Recording.{sample_in, are_of_aarch64, records_in, events_in, IsReadOf};
 ghost use Rattle.framehop_perf_stacks.specs.Refusal.{of_recording};
-ghost use Rattle.framehop_perf_stacks.specs.Sampled.{has_process};
 ghost use Rattle.framehop_perf_stacks.specs.declared.error.StacksError.{StacksError};
 
-use crate::changes::code_mapping;
 use crate::error::StacksError;
 use crate::perf_map::{MapSource, add_map};
-use crate::sampled::{SampledProcesses, sampled_processes};
+use crate::sampled::sampled_mappings;
 use framehop_recording::attributes::Attribute;
 use framehop_recording::build_ids::{FileBuildId, read_build_ids};
 use framehop_recording::error::RecordingError;
@@ -110,7 +107,7 @@ impl<'a> BuildIdsByName<'a> {
     }
 }
 
-/// Reads the files whose code is mapped by processes that are unwound, and the maps of their code that is in no file, each once. Fails
+/// Reads the files whose code is mapped at samples, and the maps of code that is in no file, each once. Fails
 /// only where an allocation does, or from 2^32 files on.
 pub fn read_files<'m, S: FileSource + MapSource>(
     alloc: Global,
@@ -122,17 +119,10 @@ pub fn read_files<'m, S: FileSource + MapSource>(
     ensures refused { IfErr result (λ error. error ≡ StacksError.OutOfMemory) }
 {
     let build_ids = build_ids_by_name(alloc, recording.build_ids.as_slice())?;
-    let sampled = sampled_processes(alloc, &recording.events, recording.records.as_slice())?;
+    let mappings = sampled_mappings(alloc, &recording.events, recording.records.as_slice())?;
     let mut files = Files::new(alloc)?;
-    for timed in &recording.records {
-        add_file(
-            alloc,
-            &sampled,
-            &build_ids,
-            source,
-            &mut files,
-            timed.record,
-        )?;
+    for mapping in &mappings {
+        add_file(alloc, &build_ids, source, &mut files, mapping)?;
     }
     Ok(files)
 }
@@ -154,38 +144,22 @@ fn build_ids_by_name<'a>(
     Ok(BuildIdsByName { by_name })
 }
 
-/// Reads the file of a record's mapping, if it is one of the code of one of these processes, or the map of its process, if it is of
-/// no file.
+/// Reads the file of a mapping, or the map of its process, if it is of no file.
 fn add_file<'a, S: FileSource + MapSource>(
     alloc: Global,
-    sampled: &SampledProcesses,
     build_ids: &BuildIdsByName<'a>,
     source: &S,
     files: &mut Files,
-    record: Record<'a>,
+    mapping: &Mapping<'a>,
 ) -> Result<(), StacksError>
-    ensures added { (is_one : ℕ → Bool) → ((pid : ℕ) → has_process sampled.now pid ≡ is_one pid)
-        → (recorded : List FileBuildIdView) → HasBuildIds recorded build_ids.now.by_name
-        → OnOk result (IsAddedFor (S.source source.now) (S.gives_map source.now) recorded (of_process is_one (code_mapping_in (record_view «record».entry))) files.old files.new) }
+    ensures added { (recorded : List FileBuildIdView) → HasBuildIds recorded build_ids.now.by_name
+        → OnOk result (IsAddedFor (S.source source.now) (S.gives_map source.now) recorded (mapping_view mapping.now) files.old files.new) }
     ensures refused { IfErr result (λ error. error ≡ StacksError.OutOfMemory) }
 {
-    let Some(mapping) = sampled_mapping(sampled, record) else {
-        return Ok(());
-    };
-    let build_id = build_ids.wanted(&mapping);
+    let build_id = build_ids.wanted(mapping);
     files.add(alloc, source, mapping.name, build_id)?;
-    add_map(alloc, source, files, &mapping)?;
+    add_map(alloc, source, files, mapping)?;
     Ok(())
-}
-
-/// Returns the mapping of a record, if it can be read and is one of the code of one of these processes.
-fn sampled_mapping<'a>(sampled: &SampledProcesses, record: Record<'a>) -> Option<Mapping<'a>>
-    ensures { option_map (λ mapping. mapping_view mapping) result ≡ of_process (has_process sampled.now) (code_mapping_in (record_view «record».entry)) }
-{
-    match code_mapping(record) {
-        Some(mapping) if sampled.has(mapping.pid) => Some(mapping),
-        _ => None,
-    }
 }
 
 /// Returns the sample of a record with the mask of its registers.

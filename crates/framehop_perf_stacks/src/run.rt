@@ -14,7 +14,6 @@ ghost use Rattle.framehop_recording.specs.Records.{record_view};
 ghost use Rattle.framehop_recording.specs.Sample.{user_view, sample_view, read_chain_view};
 ghost use Rattle.framehop_recording.specs.Tasks.{lost_at};
 ghost use Rattle.framehop_recording.specs.declared.error.RecordingError.{RecordingError};
-ghost use Rattle.framehop_backtrace.specs.declared.frame.BacktraceEnd.TheVariants.{Root};
 ghost use Rattle.framehop_perf_stacks.specs.Chain.{frames_of_chain};
 ghost use Rattle.framehop_perf_stacks.specs.Changes.{change_in};
 ghost use Rattle.framehop_perf_stacks.specs.Counts.{CountsOneMore, HasSameSamples};
@@ -23,14 +22,13 @@ ghost use Rattle.framehop_perf_stacks.specs.Names.{named_in};
 ghost use Rattle.framehop_perf_stacks.specs.Processes.{mapped_in, ready_in, IsServed};
 ghost use Rattle.framehop_perf_stacks.specs.Recording.{sample_in, records_in};
 ghost use Rattle.framehop_perf_stacks.specs.Run.{AreCounted, CountsMore, is_sample, samples_in_kind, sample_refusal};
-ghost use Rattle.framehop_perf_stacks.specs.Samples.{State, beginning, state_in, state_after, state_over, drawn_over, Agrees, samples_from, SampleStack, of_walk, of_chain, unread_stack, IsStackOfChain, is_copy_full, is_in_larger_copy, is_end_of_copy, told_by, base_of, copied_memory, NotedIf, IsUserStack, IsToldAt, IsToldWith, Told, lost_after, lost_over, Each, IsTaken, AreTaken};
-ghost use Rattle.framehop_frames.specs.Line.{end_name};
+ghost use Rattle.framehop_perf_stacks.specs.Samples.{State, beginning, state_in, state_after, state_over, drawn_over, Agrees, samples_from, SampleStack, end_of, stack_of, unread_stack, name_of_end, told_by, told_of, base_of, copied_memory, NotedIf, IsUserStack, IsToldAt, IsToldWith, Told, lost_after, lost_over, Each, IsTaken, AreTaken};
 ghost use Rattle.framehop_frames.specs.Notes.{option_noted, AreStackNotes};
-ghost use Rattle.framehop_frames.specs.Stack.{no_stack, shown_frame, stack_view, option_stack_view};
+ghost use Rattle.framehop_frames.specs.Stack.{shown_frame};
 ghost use Rattle.framehop_perf_stacks.specs.declared.error.StacksError.TheVariants.{OutOfMemory, Recording as RecordingRefused};
 ghost use Rattle.framehop_symbols.specs.declared.files.Files.{Files};
 
-use crate::chain::chain_stack;
+use crate::chain::chain_frames;
 use crate::changes::change_of;
 use crate::counts::Counts;
 use crate::error::StacksError;
@@ -41,22 +39,21 @@ use crate::names::Names;
 use crate::processes::Processes;
 use crate::recording::{Recording, sample_of};
 use crate::sample_source::SampleSource;
-use crate::sample_text::{
-    chain_line, chain_shown, refused_shown, unwalked_line, walked_line, walked_shown,
+use crate::sample_stack::{
+    EndedStack, SampleAt, chain_stack, is_cut, name_of_end, no_stack, walked_stack,
 };
+use crate::sample_text::{counted_stack, shown_stack};
 use crate::stack::walk_sample;
 use crate::vdso::has_unread_vdso;
-use framehop::Error;
-use framehop_backtrace::{BacktraceEnd, RowRoom};
+use framehop_backtrace::RowRoom;
 use framehop_cfi::storage::StoreOnStack;
 use framehop_explain::Note;
-use framehop_frames::line::{end_name, has_guess, sure_part};
+use framehop_frames::line::{has_guess, sure_part};
 use framehop_frames::machine::Start;
-use framehop_frames::stack::Stack;
+use framehop_frames::stack::{Stack, StackFrame};
 use framehop_processes::{Mapping, ModuleMaker};
 use framehop_recording::chain::user_part;
 use framehop_recording::error::RecordingError;
-use framehop_recording::events::Events;
 use framehop_recording::kind::{LOST, SAMPLE};
 use framehop_recording::records::Record;
 use framehop_recording::sample::{CallChain, Sample, UserStack};
@@ -64,9 +61,6 @@ use framehop_recording::tasks::read_lost;
 use framehop_symbols::files::Files;
 use std::alloc::{AllocError, Global};
 use std::io::Write;
-
-/// How many bytes of a stack the kernel copies at most, and perf asks for.
-const MOST_COPIED: u64 = 65528;
 
 /// What is asked for.
 #[derive(Clone, Copy, Drop)]
@@ -85,6 +79,18 @@ pub struct Options<'a> {
     pub kernel: Option<&'a KernelNames>,
     /// Stacks as JSON, in the place of lines and blocks.
     pub json: bool,
+}
+
+/// What a run takes in: records, and what is the same for each of them.
+#[derive(Drop)]
+pub(crate) struct Input<'r, 'd, 'm, M, B> {
+    pub recording: &'r Recording<'d>,
+    pub files: &'r Files<'m>,
+    /// What makes modules of these.
+    pub maker: &'r M,
+    /// What gives the bodies of samples.
+    pub samples: &'r B,
+    pub options: Options<'r>,
 }
 
 /// The state of a run: what is known after the records so far.
@@ -127,99 +133,74 @@ where
         })
     }
 
-    /// Counts or writes the stack of a sample, whose process is known, or that it has none. The copy of the stack begins at
-    /// `base` (AVMA).
-    fn take_walked<W: Write>(
+    /// Counts or writes the stack of a sample, whose process is known.
+    fn take_known<M, B, R: Copy, W: Write>(
         &mut self,
         alloc: Global,
-        files: &Files,
+        input: &Input<'_, '_, '_, M, B>,
         sample: Sample<'_>,
-        base: u64,
-        walked: &Option<Stack<U::UnwindRegs>>,
+        stack: EndedStack<'_, R>,
         notes: &[Note],
-        options: Options<'_>,
         out: &mut W,
     ) -> Result<(), StacksError>
         requires { IsSome (ready_in self.old.processes.by_pid self.old.processes.ready sample.pid) }
-        ensures counted { OnOk result (CountsMore options.entry.frames 1 self.old.counts self.new.counts) }
+        ensures counted { OnOk result (CountsMore input.now.options.frames 1 self.old.counts self.new.counts) }
         ensures processes { self.new.processes ≡ self.old.processes }
         ensures names { self.new.names ≡ self.old.names }
         ensures cache { self.new.cache ≡ self.old.cache }
-        ensures taken { OnOk result (IsTaken options.entry.frames
-            (told_by options.entry files.now (named_in self.old.names sample.entry.tid) (Some sample.entry) (mapped_in self.old.processes.by_pid sample.entry.pid) (of_walk base (option_stack_view walked.now)) notes.now)
+        ensures taken { OnOk result (IsTaken input.now.options.frames
+            (told_by input.now.options input.now.files.now (named_in self.old.names sample.entry.tid) (Some sample.entry) (mapped_in self.old.processes.by_pid sample.entry.pid) (stack_of stack.entry) notes.now)
             self.old.counts self.new.counts (W.contents out.old) (W.contents out.new)) }
-        ensures refused { (samples : ℕ) → AreCounted options.entry.frames samples self.old.counts
-            → IfErr result (MayEnd options.entry.frames None 0 (samples + 1)) }
+        ensures refused { (samples : ℕ) → AreCounted input.now.options.frames samples self.old.counts
+            → IfErr result (MayEnd input.now.options.frames None 0 (samples + 1)) }
     {
-        let name = self.names.get(sample.tid);
-        match walked {
-            Some(stack) => {
-                let mappings = self.processes.mappings(sample.pid);
-                take_stack(
-                    alloc,
-                    &mut self.counts,
-                    files,
-                    mappings,
-                    name,
-                    sample,
-                    base,
-                    stack,
-                    notes,
-                    options,
-                    out,
-                )?;
-            }
-            None => take_refused(
-                alloc,
-                &mut self.counts,
-                name,
-                Some(sample),
-                "no-registers",
-                notes,
-                options,
-                out,
-            )?,
-        }
+        let at = SampleAt {
+            sample: Some(sample),
+            name: self.names.get(sample.tid),
+            mappings: self.processes.mappings(sample.pid),
+            files: input.files,
+            options: input.options,
+        };
+        take_stack(alloc, &mut self.counts, at, stack, notes, out)?;
         Ok(())
     }
 
     /// Unwinds the stack of a sample, whose process is known.
-    fn take_user<W: Write>(
+    fn take_user<M, B, W: Write>(
         &mut self,
         alloc: Global,
-        files: &Files,
+        input: &Input<'_, '_, '_, M, B>,
         sample: Sample<'_>,
         mask: u64,
         user: UserStack<'_>,
-        options: Options<'_>,
         out: &mut W,
     ) -> Result<(), StacksError>
         requires { IsSome (ready_in self.old.processes.by_pid self.old.processes.ready sample.pid) }
         ensures served { OnOk result ((module_of : Mapping → ModuleView)
             → IsServed module_of (λ view. U.is_sound view self.old.cache) self.old.processes.ready self.old.processes.generations
             → IsServed module_of (λ view. U.is_sound view self.new.cache) self.new.processes.ready self.new.processes.generations) }
-        ensures counted { OnOk result (CountsMore options.entry.frames 1 self.old.counts self.new.counts) }
+        ensures counted { OnOk result (CountsMore input.now.options.frames 1 self.old.counts self.new.counts) }
         ensures processes { self.new.processes ≡ self.old.processes }
         ensures names { self.new.names ≡ self.old.names }
         ensures told { OnOk result ((module_of : Mapping → ModuleView)
             → IsServed module_of (λ view. U.is_sound view self.old.cache) self.old.processes.ready self.old.processes.generations
-            → (stack : SampleStack) × ((notes : List (List ℕ)) × IsUserStack U.walker U.is_note U.starts (options.entry.frames && options.entry.explain) options.entry.limit files.now (mapped_in self.old.processes.by_pid sample.entry.pid) (map module_of (mapped_in self.old.processes.by_pid sample.entry.pid)) mask (read_chain_view sample.entry.chain) (Ok (user_view user.entry)) stack notes
-            × IsTaken options.entry.frames (told_by options.entry files.now (named_in self.old.names sample.entry.tid) (Some sample.entry) (mapped_in self.old.processes.by_pid sample.entry.pid) stack notes)
+            → (stack : SampleStack) × ((notes : List (List ℕ)) × IsUserStack U.walker U.is_note U.starts (input.now.options.frames && input.now.options.explain) input.now.options.limit input.now.files.now (mapped_in self.old.processes.by_pid sample.entry.pid) (map module_of (mapped_in self.old.processes.by_pid sample.entry.pid)) mask (read_chain_view sample.entry.chain) (Ok (user_view user.entry)) stack notes
+            × IsTaken input.now.options.frames (told_by input.now.options input.now.files.now (named_in self.old.names sample.entry.tid) (Some sample.entry) (mapped_in self.old.processes.by_pid sample.entry.pid) stack notes)
             self.old.counts self.new.counts (W.contents out.old) (W.contents out.new))) }
-        ensures refused { (samples : ℕ) → AreCounted options.entry.frames samples self.old.counts
-            → IfErr result (MayEnd options.entry.frames None 0 (samples + 1)) }
+        ensures refused { (samples : ℕ) → AreCounted input.now.options.frames samples self.old.counts
+            → IfErr result (MayEnd input.now.options.frames None 0 (samples + 1)) }
     {
         let process = self.processes.known(sample.pid);
         let start = U::start(process.greatest_end(), mask, user.registers);
         let walked = walk_sample(
             alloc,
-            files,
+            input.files,
             process,
             &mut self.room,
             &mut self.cache,
             start,
             user.stack,
-            options.limit,
+            input.options.limit,
         )?;
         let notes = notes_of(
             alloc,
@@ -227,142 +208,101 @@ where
             start,
             user.stack,
             &walked,
-            options,
+            input.options,
         )?;
-        self.take_walked(
-            alloc,
-            files,
-            sample,
-            base_of(start),
-            &walked,
-            notes.as_slice(),
-            options,
-            out,
-        )?;
+        let stack = walked_stack(&walked, base_of(start));
+        self.take_known(alloc, input, sample, stack, notes.as_slice(), out)?;
         Ok(())
     }
 
     /// Counts or writes the call chain of a sample whose stack can't be read, or why it can't be.
-    fn take_unread<W: Write>(
+    fn take_unread<M, B, W: Write>(
         &mut self,
         alloc: Global,
-        files: &Files,
+        input: &Input<'_, '_, '_, M, B>,
         sample: Sample<'_>,
         refusal: RecordingError,
-        options: Options<'_>,
         out: &mut W,
     ) -> Result<(), StacksError>
         requires { IsSome (ready_in self.old.processes.by_pid self.old.processes.ready sample.pid) }
-        ensures counted { OnOk result (CountsMore options.entry.frames 1 self.old.counts self.new.counts) }
+        ensures counted { OnOk result (CountsMore input.now.options.frames 1 self.old.counts self.new.counts) }
         ensures processes { self.new.processes ≡ self.old.processes }
         ensures names { self.new.names ≡ self.old.names }
         ensures cache { self.new.cache ≡ self.old.cache }
-        ensures taken { OnOk result (IsTaken options.entry.frames
-            (told_by options.entry files.now (named_in self.old.names sample.entry.tid) (Some sample.entry) (mapped_in self.old.processes.by_pid sample.entry.pid)
-            (unread_stack refusal (frames_of_chain refusal (read_chain_view sample.entry.chain))) [])
+        ensures taken { OnOk result (IsTaken input.now.options.frames
+            (told_by input.now.options input.now.files.now (named_in self.old.names sample.entry.tid) (Some sample.entry) (mapped_in self.old.processes.by_pid sample.entry.pid)
+            (unread_stack (sample_refusal refusal) (frames_of_chain refusal (read_chain_view sample.entry.chain))) [])
             self.old.counts self.new.counts (W.contents out.old) (W.contents out.new)) }
-        ensures refused { (samples : ℕ) → AreCounted options.entry.frames samples self.old.counts
-            → IfErr result (MayEnd options.entry.frames None 0 (samples + 1)) }
+        ensures refused { (samples : ℕ) → AreCounted input.now.options.frames samples self.old.counts
+            → IfErr result (MayEnd input.now.options.frames None 0 (samples + 1)) }
     {
-        let name = self.names.get(sample.tid);
-        match stack_of_chain(alloc, refusal, sample.chain)? {
-            Some(stack) => {
-                let mappings = self.processes.mappings(sample.pid);
-                take_chain(
-                    alloc,
-                    &mut self.counts,
-                    files,
-                    mappings,
-                    name,
-                    sample,
-                    &stack,
-                    options,
-                    out,
-                )?;
-            }
-            None => take_refused(
-                alloc,
-                &mut self.counts,
-                name,
-                Some(sample),
-                refusal_name(refusal),
-                &[],
-                options,
-                out,
-            )?,
-        }
+        let frames = frames_of_chain(alloc, refusal, sample.chain)?;
+        let stack = chain_stack(frames.as_slice(), refusal_name(refusal));
+        self.take_known(alloc, input, sample, stack, &[], out)?;
         Ok(())
     }
 
     /// Unwinds a sample, or counts why that can't be done.
-    fn take_sample<M: ModuleMaker<U>, W: Write>(
+    fn take_sample<M: ModuleMaker<U>, B, W: Write>(
         &mut self,
         alloc: Global,
-        files: &Files,
-        maker: &M,
+        input: &Input<'_, '_, '_, M, B>,
         sample: Sample<'_>,
         mask: u64,
-        options: Options<'_>,
         out: &mut W,
     ) -> Result<(), StacksError>
-        ensures served { OnOk result (IsServed (M.module_of maker.now) (λ view. U.is_sound view self.old.cache) self.old.processes.ready self.old.processes.generations
-            → IsServed (M.module_of maker.now) (λ view. U.is_sound view self.new.cache) self.new.processes.ready self.new.processes.generations) }
-        ensures counted { OnOk result (CountsMore options.entry.frames 1 self.old.counts self.new.counts) }
+        ensures served { OnOk result (IsServed (M.module_of input.now.maker.now) (λ view. U.is_sound view self.old.cache) self.old.processes.ready self.old.processes.generations
+            → IsServed (M.module_of input.now.maker.now) (λ view. U.is_sound view self.new.cache) self.new.processes.ready self.new.processes.generations) }
+        ensures counted { OnOk result (CountsMore input.now.options.frames 1 self.old.counts self.new.counts) }
         ensures names { self.new.names ≡ self.old.names }
         ensures mapped { OnOk result ((pid : ℕ) → mapped_in self.new.processes.by_pid pid ≡ mapped_in self.old.processes.by_pid pid) }
-        ensures told { OnOk result (IsServed (M.module_of maker.now) (λ view. U.is_sound view self.old.cache) self.old.processes.ready self.old.processes.generations
-            → (told : Told) × IsToldAt (M.module_of maker.now) U.walker U.is_note U.starts options.entry files.now (state_in self.old.names self.old.processes.by_pid) (Ok (sample_view sample.entry, mask)) told
-            × IsTaken options.entry.frames told self.old.counts self.new.counts (W.contents out.old) (W.contents out.new)) }
+        ensures told { OnOk result (IsServed (M.module_of input.now.maker.now) (λ view. U.is_sound view self.old.cache) self.old.processes.ready self.old.processes.generations
+            → (told : Told) × IsToldAt (M.module_of input.now.maker.now) U.walker U.is_note U.starts input.now.options input.now.files.now (state_in self.old.names self.old.processes.by_pid) (Ok (sample_view sample.entry, mask)) told
+            × IsTaken input.now.options.frames told self.old.counts self.new.counts (W.contents out.old) (W.contents out.new)) }
         ensures drawn { self.new.processes.generations ≤ self.old.processes.generations + 2 }
-        ensures refused { (samples : ℕ) → AreCounted options.entry.frames samples self.old.counts
-            → IfErr result (MayEnd options.entry.frames None (self.old.processes.generations + 2) (samples + 1)) }
+        ensures refused { (samples : ℕ) → AreCounted input.now.options.frames samples self.old.counts
+            → IfErr result (MayEnd input.now.options.frames None (self.old.processes.generations + 2) (samples + 1)) }
     {
-        self.processes.make_ready(alloc, maker, sample.pid)?;
+        self.processes.make_ready(alloc, input.maker, sample.pid)?;
         match sample.user {
-            Ok(user) => self.take_user(alloc, files, sample, mask, user, options, out)?,
-            Err(error) => self.take_unread(alloc, files, sample, error, options, out)?,
+            Ok(user) => self.take_user(alloc, input, sample, mask, user, out)?,
+            Err(error) => self.take_unread(alloc, input, sample, error, out)?,
         }
         Ok(())
     }
 
     /// Unwinds the sample of a record, or counts why that can't be done.
-    fn take_sample_record<M: ModuleMaker<U>, W: Write>(
+    fn take_sample_record<M: ModuleMaker<U>, B, W: Write>(
         &mut self,
         alloc: Global,
-        events: &Events<'_>,
-        files: &Files,
-        maker: &M,
+        input: &Input<'_, '_, '_, M, B>,
         record: Record<'_>,
-        options: Options<'_>,
         out: &mut W,
     ) -> Result<(), StacksError>
-        ensures served { OnOk result (IsServed (M.module_of maker.now) (λ view. U.is_sound view self.old.cache) self.old.processes.ready self.old.processes.generations
-            → IsServed (M.module_of maker.now) (λ view. U.is_sound view self.new.cache) self.new.processes.ready self.new.processes.generations) }
-        ensures counted { OnOk result (CountsMore options.entry.frames 1 self.old.counts self.new.counts) }
+        ensures served { OnOk result (IsServed (M.module_of input.now.maker.now) (λ view. U.is_sound view self.old.cache) self.old.processes.ready self.old.processes.generations
+            → IsServed (M.module_of input.now.maker.now) (λ view. U.is_sound view self.new.cache) self.new.processes.ready self.new.processes.generations) }
+        ensures counted { OnOk result (CountsMore input.now.options.frames 1 self.old.counts self.new.counts) }
         ensures names { self.new.names ≡ self.old.names }
         ensures mapped { OnOk result ((pid : ℕ) → mapped_in self.new.processes.by_pid pid ≡ mapped_in self.old.processes.by_pid pid) }
-        ensures told { OnOk result (IsServed (M.module_of maker.now) (λ view. U.is_sound view self.old.cache) self.old.processes.ready self.old.processes.generations
-            → (told : Told) × IsToldAt (M.module_of maker.now) U.walker U.is_note U.starts options.entry files.now (state_in self.old.names self.old.processes.by_pid) (sample_in (map attribute_view events.now.attributes.items) (record_view «record».entry)) told
-            × IsTaken options.entry.frames told self.old.counts self.new.counts (W.contents out.old) (W.contents out.new)) }
+        ensures told { OnOk result (IsServed (M.module_of input.now.maker.now) (λ view. U.is_sound view self.old.cache) self.old.processes.ready self.old.processes.generations
+            → (told : Told) × IsToldAt (M.module_of input.now.maker.now) U.walker U.is_note U.starts input.now.options input.now.files.now (state_in self.old.names self.old.processes.by_pid) (sample_in (map attribute_view input.now.recording.now.events.attributes.items) (record_view «record».entry)) told
+            × IsTaken input.now.options.frames told self.old.counts self.new.counts (W.contents out.old) (W.contents out.new)) }
         ensures drawn { self.new.processes.generations ≤ self.old.processes.generations + 2 }
-        ensures refused { (samples : ℕ) → AreCounted options.entry.frames samples self.old.counts
-            → IfErr result (MayEnd options.entry.frames None (self.old.processes.generations + 2) (samples + 1)) }
+        ensures refused { (samples : ℕ) → AreCounted input.now.options.frames samples self.old.counts
+            → IfErr result (MayEnd input.now.options.frames None (self.old.processes.generations + 2) (samples + 1)) }
     {
-        match sample_of(events, record) {
-            Ok((sample, mask)) => {
-                self.take_sample(alloc, files, maker, sample, mask, options, out)?
-            }
+        match sample_of(&input.recording.events, record) {
+            Ok((sample, mask)) => self.take_sample(alloc, input, sample, mask, out)?,
             Err(error) => {
-                take_refused(
-                    alloc,
-                    &mut self.counts,
-                    b"[unknown]",
-                    None,
-                    refusal_name(error),
-                    &[],
-                    options,
-                    out,
-                )?;
+                let at = SampleAt {
+                    sample: None,
+                    name: b"[unknown]",
+                    mappings: &[],
+                    files: input.files,
+                    options: input.options,
+                };
+                let stack: EndedStack<'_, ()> = no_stack(refusal_name(error));
+                take_stack(alloc, &mut self.counts, at, stack, &[], out)?;
             }
         }
         Ok(())
@@ -395,39 +335,35 @@ where
     fn take_record<M: ModuleMaker<U>, B: SampleSource, W: Write>(
         &mut self,
         alloc: Global,
-        events: &Events<'_>,
-        files: &Files,
-        maker: &M,
-        samples: &B,
+        input: &Input<'_, '_, '_, M, B>,
         record: Record<'_>,
         buffer: &mut Vec<u8>,
-        options: Options<'_>,
         out: &mut W,
     ) -> Result<(), StacksError>
-        requires served { IsServed (M.module_of maker.now) (λ view. U.is_sound view self.old.cache) self.old.processes.ready self.old.processes.generations }
-        ensures served { OnOk result (IsServed (M.module_of maker.now) (λ view. U.is_sound view self.new.cache) self.new.processes.ready self.new.processes.generations) }
-        ensures counted { OnOk result (CountsMore options.entry.frames (samples_in_kind «record».entry.kind) self.old.counts self.new.counts) }
+        requires served { IsServed (M.module_of input.now.maker.now) (λ view. U.is_sound view self.old.cache) self.old.processes.ready self.old.processes.generations }
+        ensures served { OnOk result (IsServed (M.module_of input.now.maker.now) (λ view. U.is_sound view self.new.cache) self.new.processes.ready self.new.processes.generations) }
+        ensures counted { OnOk result (CountsMore input.now.options.frames (samples_in_kind «record».entry.kind) self.old.counts self.new.counts) }
         ensures state { OnOk result (Agrees self.new.names self.new.processes.by_pid
-            (state_after files.now (record_view «record».entry) (state_in self.old.names self.old.processes.by_pid))) }
+            (state_after input.now.files.now (record_view «record».entry) (state_in self.old.names self.old.processes.by_pid))) }
         ensures sample { «record».entry.kind ≡ PERF_RECORD_SAMPLE → OnOk result ((told : Told)
-            × IsToldWith (M.module_of maker.now) U.walker U.is_note U.starts options.entry files.now (B.gives samples.now) (map attribute_view events.now.attributes.items)
+            × IsToldWith (M.module_of input.now.maker.now) U.walker U.is_note U.starts input.now.options input.now.files.now (B.gives input.now.samples.now) (map attribute_view input.now.recording.now.events.attributes.items)
             (record_view «record».entry, state_in self.old.names self.old.processes.by_pid) told
-            × IsTaken options.entry.frames told self.old.counts self.new.counts (W.contents out.old) (W.contents out.new)) }
+            × IsTaken input.now.options.frames told self.old.counts self.new.counts (W.contents out.old) (W.contents out.new)) }
         ensures other { «record».entry.kind ≢ PERF_RECORD_SAMPLE → HasSameSamples self.old.counts self.new.counts × (out.new ≡ out.old) }
         ensures lost { OnOk result (self.new.counts.lost ≡ lost_after (record_view «record».entry) self.old.counts.lost) }
         ensures lost_before { (refusal : RecordingError) → refusal_in (record_view «record».entry) ≡ Some refusal → self.new.counts.lost ≡ self.old.counts.lost }
         ensures drawn { OnOk result (self.new.processes.generations ≤ self.old.processes.generations
-            + drawn_in (change_in files.now (record_view «record».entry)) (mapped_in self.old.processes.by_pid)) }
+            + drawn_in (change_in input.now.files.now (record_view «record».entry)) (mapped_in self.old.processes.by_pid)) }
         ensures read { OnOk result (refusal_in (record_view «record».entry) ≡ None) }
-        ensures refused { (samples : ℕ) → AreCounted options.entry.frames samples self.old.counts
-            → IfErr result (MayEnd options.entry.frames (refusal_in (record_view «record».entry))
-            (self.old.processes.generations + drawn_in (change_in files.now (record_view «record».entry)) (mapped_in self.old.processes.by_pid))
+        ensures refused { (samples : ℕ) → AreCounted input.now.options.frames samples self.old.counts
+            → IfErr result (MayEnd input.now.options.frames (refusal_in (record_view «record».entry))
+            (self.old.processes.generations + drawn_in (change_in input.now.files.now (record_view «record».entry)) (mapped_in self.old.processes.by_pid))
             (samples + samples_in_kind «record».entry.kind)) }
     {
         if record.kind == SAMPLE {
-            let body = samples.body(record, buffer)?;
+            let body = input.samples.body(record, buffer)?;
             let record = Record { body, ..record };
-            self.take_sample_record(alloc, events, files, maker, record, options, out)?;
+            self.take_sample_record(alloc, input, record, out)?;
             return Ok(());
         }
         if record.kind == LOST {
@@ -435,8 +371,8 @@ where
             return Ok(());
         }
         self.names.note(alloc, record)?;
-        if let Some(change) = change_of(files, record)? {
-            self.processes.apply(alloc, maker, change)?;
+        if let Some(change) = change_of(input.files, record)? {
+            self.processes.apply(alloc, input.maker, change)?;
         }
         Ok(())
     }
@@ -445,218 +381,90 @@ where
     pub(crate) fn take_records<M: ModuleMaker<U>, B: SampleSource, W: Write>(
         &mut self,
         alloc: Global,
-        recording: &Recording<'_>,
-        files: &Files,
-        maker: &M,
-        samples: &B,
-        options: Options<'_>,
+        input: &Input<'_, '_, '_, M, B>,
         out: &mut W,
     ) -> Result<(), StacksError>
-        requires served { IsServed (M.module_of maker.now) (λ view. U.is_sound view self.old.cache) self.old.processes.ready self.old.processes.generations }
-        requires none { AreCounted options.frames 0 self.old.counts }
-        ensures served { OnOk result (IsServed (M.module_of maker.now) (λ view. U.is_sound view self.new.cache) self.new.processes.ready self.new.processes.generations) }
-        ensures counted { OnOk result (AreCounted options.entry.frames (count_by is_sample recording.now.records.items) self.new.counts) }
+        requires served { IsServed (M.module_of input.now.maker.now) (λ view. U.is_sound view self.old.cache) self.old.processes.ready self.old.processes.generations }
+        requires none { AreCounted input.now.options.frames 0 self.old.counts }
+        ensures served { OnOk result (IsServed (M.module_of input.now.maker.now) (λ view. U.is_sound view self.new.cache) self.new.processes.ready self.new.processes.generations) }
+        ensures counted { OnOk result (AreCounted input.now.options.frames (count_by is_sample input.now.recording.now.records.items) self.new.counts) }
         ensures state { (state : State) → Agrees self.old.names self.old.processes.by_pid state → OnOk result
-            (Agrees self.new.names self.new.processes.by_pid (state_over files.now (records_in recording.now.records.items) state)) }
+            (Agrees self.new.names self.new.processes.by_pid (state_over input.now.files.now (records_in input.now.recording.now.records.items) state)) }
         ensures told { (state : State) → Agrees self.old.names self.old.processes.by_pid state → OnOk result ((told : List Told)
-            × Each (IsToldWith (M.module_of maker.now) U.walker U.is_note U.starts options.entry files.now (B.gives samples.now) (map attribute_view recording.now.events.attributes.items))
-            (samples_from files.now state (records_in recording.now.records.items)) told
-            × AreTaken options.entry.frames told self.old.counts self.new.counts (W.contents out.old) (W.contents out.new)) }
-        ensures read { OnOk result (first_refusal (records_in recording.now.records.items) ≡ None) }
-        ensures refused { (state : State) → Agrees self.old.names self.old.processes.by_pid state → IfErr result (MayEnd options.entry.frames
-            (first_refusal (records_in recording.now.records.items))
-            (self.old.processes.generations + drawn_over files.now (records_in recording.now.records.items) state)
-            (count_by is_sample recording.now.records.items)) }
-        ensures lost { OnOk result (self.new.counts.lost ≡ lost_over (records_in recording.now.records.items) self.old.counts.lost) }
+            × Each (IsToldWith (M.module_of input.now.maker.now) U.walker U.is_note U.starts input.now.options input.now.files.now (B.gives input.now.samples.now) (map attribute_view input.now.recording.now.events.attributes.items))
+            (samples_from input.now.files.now state (records_in input.now.recording.now.records.items)) told
+            × AreTaken input.now.options.frames told self.old.counts self.new.counts (W.contents out.old) (W.contents out.new)) }
+        ensures read { OnOk result (first_refusal (records_in input.now.recording.now.records.items) ≡ None) }
+        ensures refused { (state : State) → Agrees self.old.names self.old.processes.by_pid state → IfErr result (MayEnd input.now.options.frames
+            (first_refusal (records_in input.now.recording.now.records.items))
+            (self.old.processes.generations + drawn_over input.now.files.now (records_in input.now.recording.now.records.items) state)
+            (count_by is_sample input.now.recording.now.records.items)) }
+        ensures lost { OnOk result (self.new.counts.lost ≡ lost_over (records_in input.now.recording.now.records.items) self.old.counts.lost) }
         ensures lost_before { (refusal : RecordingError) → result ≡ Err (RecordingRefused refusal)
-            → self.new.counts.lost ≡ lost_over (before_refusal (records_in recording.now.records.items)) self.old.counts.lost }
+            → self.new.counts.lost ≡ lost_over (before_refusal (records_in input.now.recording.now.records.items)) self.old.counts.lost }
         ensures before { (state : State) → Agrees self.old.names self.old.processes.by_pid state
             → (refusal : RecordingError) → result ≡ Err (RecordingRefused refusal) → (told : List Told)
-            × Each (IsToldWith (M.module_of maker.now) U.walker U.is_note U.starts options.entry files.now (B.gives samples.now) (map attribute_view recording.now.events.attributes.items))
-            (samples_from files.now state (before_refusal (records_in recording.now.records.items))) told
-            × AreTaken options.entry.frames told self.old.counts self.new.counts (W.contents out.old) (W.contents out.new) }
+            × Each (IsToldWith (M.module_of input.now.maker.now) U.walker U.is_note U.starts input.now.options input.now.files.now (B.gives input.now.samples.now) (map attribute_view input.now.recording.now.events.attributes.items))
+            (samples_from input.now.files.now state (before_refusal (records_in input.now.recording.now.records.items))) told
+            × AreTaken input.now.options.frames told self.old.counts self.new.counts (W.contents out.old) (W.contents out.new) }
     {
         let mut buffer = Vec::new(alloc);
-        for timed in &recording.records {
-            self.take_record(
-                alloc,
-                &recording.events,
-                files,
-                maker,
-                samples,
-                timed.record,
-                &mut buffer,
-                options,
-                out,
-            )?;
+        for timed in &input.recording.records {
+            self.take_record(alloc, input, timed.record, &mut buffer, out)?;
         }
         Ok(())
     }
 }
 
-/// Counts or writes the stack of a sample, by the name of its thread and its process's mappings in order. The copy of the
-/// stack begins at `base` (AVMA).
+/// Counts or writes the stack of a sample, or that it has none.
 fn take_stack<R: Copy, W: Write>(
     alloc: Global,
     counts: &mut Counts,
-    files: &Files,
-    mappings: &[Mapping],
-    name: &[u8],
-    sample: Sample<'_>,
-    base: u64,
-    stack: &Stack<R>,
+    at: SampleAt<'_, '_>,
+    stack: EndedStack<'_, R>,
     notes: &[Note],
-    options: Options<'_>,
     out: &mut W,
 ) -> Result<(), StacksError>
-    requires { IsInOrder 0 mappings.now }
-    ensures counted { OnOk result (CountsMore options.entry.frames 1 counts.old counts.new) }
-    ensures taken { OnOk result (IsTaken options.entry.frames
-        (told_by options.entry files.now name.now (Some sample.entry) mappings.now (of_walk base (stack_view stack.now)) notes.now)
+    requires { IsInOrder 0 at.mappings.now }
+    ensures counted { OnOk result (CountsMore at.entry.options.frames 1 counts.old counts.new) }
+    ensures taken { OnOk result (IsTaken at.entry.options.frames (told_of at.entry (stack_of stack.entry) notes.now)
         counts.old counts.new (W.contents out.old) (W.contents out.new)) }
-    ensures refused { (samples : ℕ) → AreCounted options.entry.frames samples counts.old
-        → IfErr result (MayEnd options.entry.frames None 0 (samples + 1)) }
-    ensures ends { OnOk result (CountsOneMore counts.old.ends counts.new.ends (end_name stack.now.end)) }
+    ensures refused { (samples : ℕ) → AreCounted at.entry.options.frames samples counts.old
+        → IfErr result (MayEnd at.entry.options.frames None 0 (samples + 1)) }
+    ensures ends { OnOk result (CountsOneMore counts.old.ends counts.new.ends (name_of_end (end_of stack.entry.end))) }
 {
-    let frames = stack.frames.as_slice();
+    let frames = stack.frames;
     let is_sure = sure_part(frames).len() == frames.len();
     let has_guess = has_guess(frames);
-    let is_cut = is_copy_full(Some(sample)) && is_end_of_copy(base, stack.end);
-    let end = end_name(stack.end).as_bytes();
-    let in_vdso = has_unread_vdso(files, mappings, frames);
+    let is_cut = is_cut(at.sample, stack.end);
+    let in_vdso = has_unread_vdso(at.files, at.mappings, frames);
+    let end = name_of_end(stack.end).as_bytes();
     counts.add_sample(alloc, end, is_sure, has_guess, is_cut, in_vdso)?;
-    if options.frames {
-        let shown = walked_shown(alloc, files, mappings, name, sample, stack, notes, options)?;
+    if at.options.frames {
+        let shown = shown_stack(alloc, at, stack, notes)?;
         out.write_all(shown.as_slice())?;
     } else {
-        let line = walked_line(alloc, files, mappings, name, sample, stack, options)?;
+        let line = counted_stack(alloc, at, stack)?;
         counts.add_stack(line)?;
     }
     Ok(())
 }
 
-/// Returns the stack of the call chain of a sample whose event has no copies of stacks, if it has one.
-fn stack_of_chain(
+/// Returns the frames of the call chain of a sample whose event has no copies of stacks, or none.
+fn frames_of_chain(
     alloc: Global,
     refusal: RecordingError,
     chain: Result<CallChain<'_>, RecordingError>,
-) -> Result<Option<Stack<()>>, AllocError>
-    ensures { IfOk result (λ stack. IsStackOfChain (frames_of_chain refusal (read_chain_view chain.entry)) stack) }
+) -> Result<Vec<StackFrame<()>>, AllocError>
+    ensures { IfOk result (λ frames. map shown_frame frames.items ≡ frames_of_chain refusal (read_chain_view chain.entry)) }
 {
     match (refusal, chain) {
         (RecordingError::NoUserStack { .. }, Ok(chain)) => {
             let part = user_part(alloc, chain)?;
-            let stack = chain_stack(alloc, part.as_slice())?;
-            Ok(unless_empty(stack))
+            chain_frames(alloc, part.as_slice())
         }
-        _ => Ok(None),
+        _ => Ok(Vec::new(alloc)),
     }
-}
-
-/// Returns a stack that has a frame.
-fn unless_empty(stack: Stack<()>) -> Option<Stack<()>>
-    requires { stack.end ≡ Root }
-    ensures { IsStackOfChain (map shown_frame stack.frames.items) result }
-{
-    if stack.frames.is_empty() {
-        None
-    } else {
-        Some(stack)
-    }
-}
-
-/// Counts or writes the call chain of a sample, by the name of its thread and its process's mappings in order.
-fn take_chain<W: Write>(
-    alloc: Global,
-    counts: &mut Counts,
-    files: &Files,
-    mappings: &[Mapping],
-    name: &[u8],
-    sample: Sample<'_>,
-    stack: &Stack<()>,
-    options: Options<'_>,
-    out: &mut W,
-) -> Result<(), StacksError>
-    requires ordered { IsInOrder 0 mappings.now }
-    requires whole { stack.now.end ≡ Root }
-    ensures counted { OnOk result (CountsMore options.entry.frames 1 counts.old counts.new) }
-    ensures taken { OnOk result (IsTaken options.entry.frames
-        (told_by options.entry files.now name.now (Some sample.entry) mappings.now (of_chain (map shown_frame stack.now.frames.items)) [])
-        counts.old counts.new (W.contents out.old) (W.contents out.new)) }
-    ensures refused { (samples : ℕ) → AreCounted options.entry.frames samples counts.old
-        → IfErr result (MayEnd options.entry.frames None 0 (samples + 1)) }
-{
-    let frames = stack.frames.as_slice();
-    let is_sure = sure_part(frames).len() == frames.len();
-    let in_vdso = has_unread_vdso(files, mappings, frames);
-    counts.add_sample(alloc, b"callchain", is_sure, false, false, in_vdso)?;
-    if options.frames {
-        let shown = chain_shown(alloc, files, mappings, name, sample, stack, options)?;
-        out.write_all(shown.as_slice())?;
-    } else {
-        let line = chain_line(alloc, files, mappings, name, sample, stack, options)?;
-        counts.add_stack(line)?;
-    }
-    Ok(())
-}
-
-/// Counts or writes a sample that has no stack, or that can't be read.
-fn take_refused<W: Write>(
-    alloc: Global,
-    counts: &mut Counts,
-    name: &[u8],
-    sample: Option<Sample<'_>>,
-    why: &str,
-    notes: &[Note],
-    options: Options<'_>,
-    out: &mut W,
-) -> Result<(), StacksError>
-    ensures counted { OnOk result (CountsMore options.entry.frames 1 counts.old counts.new) }
-    ensures taken { OnOk result ((files : Files) (mappings : List Mapping) (base : ℕ) → IsTaken options.entry.frames
-        (told_by options.entry files name.now sample.entry mappings (of_walk base (no_stack why.now)) notes.now)
-        counts.old counts.new (W.contents out.old) (W.contents out.new)) }
-    ensures refused { (samples : ℕ) → AreCounted options.entry.frames samples counts.old
-        → IfErr result (MayEnd options.entry.frames None 0 (samples + 1)) }
-    ensures ends { OnOk result (CountsOneMore counts.old.ends counts.new.ends why.now) }
-{
-    counts.add_sample(alloc, why.as_bytes(), true, false, false, false)?;
-    if options.frames {
-        let shown = refused_shown(alloc, name, sample, why, notes, options)?;
-        out.write_all(shown.as_slice())?;
-    } else {
-        let line = unwalked_line(alloc, name, sample, why, options)?;
-        counts.add_stack(line)?;
-    }
-    Ok(())
-}
-
-/// Returns whether the copy of a sample's stack is full.
-fn is_copy_full(sample: Option<Sample<'_>>) -> bool
-    ensures { result ≡ is_copy_full sample.entry }
-{
-    match sample {
-        Some(Sample { user: Ok(user), .. }) => user.is_full,
-        _ => false,
-    }
-}
-
-/// Returns whether a walk ended at a word that a larger copy of the stack would have, by where the copy begins (AVMA).
-fn is_end_of_copy(base: u64, end: BacktraceEnd) -> bool
-    ensures { result ≡ is_end_of_copy base end }
-{
-    match end {
-        BacktraceEnd::Refused(Error::CouldNotReadStack(address)) => {
-            is_in_larger_copy(base, address)
-        }
-        _ => false,
-    }
-}
-
-/// Returns whether a larger copy of a stack, which begins at the same address (AVMA), would have the word at another one.
-fn is_in_larger_copy(base: u64, address: u64) -> bool
-    ensures { result ≡ is_in_larger_copy base address }
-{
-    base <= address && address - base <= MOST_COPIED - 8
 }
 
 /// Returns where the copy of a stack begins (AVMA), by the registers with which a walk begins.

@@ -1,24 +1,18 @@
 //! A sample and its stack as JSON.
-ghost use Rattle.std.specs.Prelude.{ℕ, ◌≡◌, false, List, Some, IfOk, map};
+ghost use Rattle.std.specs.Prelude.{ℕ, ◌≡◌, false, List, IfOk};
 ghost use Rattle.serde_json.specs.Data.{object, Members};
 ghost use Rattle.serde_json.specs.View.{view};
 ghost use Rattle.serde_json.specs.Written.{has_float};
 ghost use Rattle.framehop_frames.specs.JsonValues.{number_data, or_null};
-ghost use Rattle.framehop_frames.specs.Stack.{no_stack, shown_frame, stack_view};
 ghost use Rattle.framehop_perf_stacks.specs.Json.{told_if, time_if, thread_members, stack_members, stack_line, rest_text, counted_line};
-ghost use Rattle.framehop_perf_stacks.specs.Samples.{of_walk, of_chain, json_text, thread_told};
+ghost use Rattle.framehop_perf_stacks.specs.Samples.{end_of, stack_of, name_of_end, address_of_end, json_text, thread_told};
 ghost use Rattle.framehop_processes.specs.Mappings.{IsInOrder};
-ghost use Rattle.framehop_processes.specs.declared.mapping.Mapping.{Mapping};
-ghost use Rattle.framehop_symbols.specs.declared.files.Files.{Files};
 
 use crate::run::Options;
+use crate::sample_stack::{EndedStack, SampleAt, StackEnd, address_of_end, name_of_end};
 use framehop_frames::json_frames::frames_value;
 use framehop_frames::json_values::{address_value, name_text, number_value};
-use framehop_frames::line::{address_of_end, end_name};
-use framehop_frames::stack::Stack;
-use framehop_processes::Mapping;
 use framehop_recording::sample::Sample;
-use framehop_symbols::files::Files;
 use serde_json::{Value, json};
 use std::alloc::{AllocError, Global};
 
@@ -31,88 +25,32 @@ struct ToldThread {
     time: Option<u64>,
 }
 
-/// Returns the JSON of a sample with a stack, but for its count, by the name of its thread and its process's mappings in order.
-pub(crate) fn walked_json<R: Copy>(
+/// Returns the JSON of a sample's stack, but for its count: what is after a comma.
+pub(crate) fn stack_json<R: Copy>(
     alloc: Global,
-    files: &Files,
-    mappings: &[Mapping],
-    name: &[u8],
-    sample: Sample<'_>,
-    stack: &Stack<R>,
-    options: Options<'_>,
+    at: SampleAt<'_, '_>,
+    stack: EndedStack<'_, R>,
 ) -> Result<Vec<u8>, AllocError>
-    requires { IsInOrder 0 mappings.now }
-    ensures { IfOk result (λ text. text.items
-        ≡ json_text files.now mappings.now (of_walk 0 (stack_view stack.now)) (thread_told options.entry name.now (Some sample.entry))) }
+    requires { IsInOrder 0 at.mappings.now }
+    ensures { IfOk result (λ text. text.items ≡ json_text at.entry.files.now at.entry.mappings.now (stack_of stack.entry)
+        (thread_told at.entry.options at.entry.name.now at.entry.sample)) }
 {
-    let frames = frames_value(alloc, files, mappings, stack.frames.as_slice())?;
-    let end_address = address_of_end(stack.end);
-    json_text(
-        alloc,
-        name,
-        Some(sample),
-        frames,
-        end_name(stack.end),
-        end_address,
-        options,
-    )
+    let frames = frames_value(alloc, at.files, at.mappings, stack.frames)?;
+    rest_text(alloc, at, frames, stack.end)
 }
 
-/// Returns the JSON of a sample with a call chain, but for its count.
-pub(crate) fn chain_json(
+/// Returns the text of a sample's JSON, by its frames, but for its count: what is after a comma.
+fn rest_text(
     alloc: Global,
-    files: &Files,
-    mappings: &[Mapping],
-    name: &[u8],
-    sample: Sample<'_>,
-    stack: &Stack<()>,
-    options: Options<'_>,
-) -> Result<Vec<u8>, AllocError>
-    requires { IsInOrder 0 mappings.now }
-    ensures { IfOk result (λ text. text.items
-        ≡ json_text files.now mappings.now (of_chain (map shown_frame stack.now.frames.items)) (thread_told options.entry name.now (Some sample.entry))) }
-{
-    let frames = frames_value(alloc, files, mappings, stack.frames.as_slice())?;
-    json_text(
-        alloc,
-        name,
-        Some(sample),
-        frames,
-        "callchain",
-        None,
-        options,
-    )
-}
-
-/// Returns the JSON of a sample that has no stack, but for its count.
-pub(crate) fn unwalked_json(
-    alloc: Global,
-    name: &[u8],
-    sample: Option<Sample<'_>>,
-    why: &str,
-    options: Options<'_>,
-) -> Result<Vec<u8>, AllocError>
-    ensures { IfOk result (λ text. (files : Files) (mappings : List Mapping) (base : ℕ) → text.items
-        ≡ json_text files mappings (of_walk base (no_stack why.now)) (thread_told options.entry name.now sample.entry)) }
-{
-    let frames = Value::Array(Vec::new(alloc));
-    json_text(alloc, name, sample, frames, why, None, options)
-}
-
-/// Returns the text of a sample's JSON, but for its count: what is after a comma.
-fn json_text(
-    alloc: Global,
-    name: &[u8],
-    sample: Option<Sample<'_>>,
+    at: SampleAt<'_, '_>,
     frames: Value,
-    end: &str,
-    end_address: Option<u64>,
-    options: Options<'_>,
+    end: StackEnd,
 ) -> Result<Vec<u8>, AllocError>
     ensures { has_float (view frames) ≡ false → IfOk result (λ text. text.items
-        ≡ rest_text (stack_members end.now end_address (view frames) (thread_told options.entry name.now sample.entry))) }
+        ≡ rest_text (stack_members (name_of_end (end_of end)) (address_of_end (end_of end)) (view frames)
+        (thread_told at.entry.options at.entry.name.now at.entry.sample))) }
 {
-    let value = stack_value(alloc, name, sample, frames, end, end_address, options)?;
+    let value = stack_value(alloc, at, frames, end)?;
     let text = value.to_string(alloc)?;
     let mut rest = Vec::new(alloc);
     if let Some((_brace, members)) = text.as_bytes().split_first() {
@@ -122,25 +60,24 @@ fn json_text(
     Ok(rest)
 }
 
-/// Returns the JSON of a sample, but for its count.
+/// Returns the JSON of a sample, by its frames, but for its count.
 fn stack_value(
     alloc: Global,
-    name: &[u8],
-    sample: Option<Sample<'_>>,
+    at: SampleAt<'_, '_>,
     frames: Value,
-    end: &str,
-    end_address: Option<u64>,
-    options: Options<'_>,
+    end: StackEnd,
 ) -> Result<Value, AllocError>
     ensures { IfOk result (λ value. view value
-        ≡ object (stack_members end.now end_address (view frames) (thread_told options.entry name.now sample.entry))) }
+        ≡ object (stack_members (name_of_end (end_of end)) (address_of_end (end_of end)) (view frames)
+        (thread_told at.entry.options at.entry.name.now at.entry.sample))) }
 {
-    let name = name_text(alloc, name)?;
-    let thread = told_thread(sample, options);
+    let name = name_text(alloc, at.name)?;
+    let thread = told_thread(at.sample, at.options);
     let pid = number_value(thread.pid);
     let tid = number_value(thread.tid);
     let time = time_value(thread.time);
-    let end_address = address_value(alloc, end_address)?;
+    let end_address = address_value(alloc, address_of_end(end))?;
+    let end = name_of_end(end);
     json!(in alloc; {
         "name": name.as_str(),
         "pid": pid,

@@ -38,7 +38,7 @@ returns-then-record-eq-SAMPLE-clause-state g c =
       named = λ tid. ap (λ all. named_in all tid) c.in_ok-take_sample_record.ensures.names
           ∙ sym (named-kept r maps names forks (named_in c.args.self.now.names) tid);
       mapped = λ pid. c.in_ok-take_sample_record.ensures.mapped pid
-          ∙ sym (mapped-kept r maps names forks c.args.files.now (mapped_in c.args.self.now.processes.by_pid) pid);
+          ∙ sym (mapped-kept r maps names forks c.args.input.now.files.now (mapped_in c.args.self.now.processes.by_pid) pid);
     }
 
 pub returns-then-record-eq-SAMPLE-clause-drawn : goal.returns-then-record-eq-SAMPLE-clause-drawn
@@ -48,7 +48,7 @@ returns-then-record-eq-SAMPLE-clause-drawn g c =
     let maps : ((r.kind == PERF_RECORD_MMAP) || (r.kind == PERF_RECORD_MMAP2)) ≡ false = rw kind refl in
     let names : (r.kind == PERF_RECORD_COMM) ≡ false = rw kind refl in
     let forks : (r.kind == PERF_RECORD_FORK) ≡ false = rw kind refl in
-    let two = drawn-none r maps names forks c.args.files.now (mapped_in c.args.self.now.processes.by_pid) in
+    let two = drawn-none r maps names forks c.args.input.now.files.now (mapped_in c.args.self.now.processes.by_pid) in
     let drawn = c.in_ok-take_sample_record.ensures.drawn in
     omega (arith, two, drawn)
 
@@ -59,11 +59,11 @@ returns-in_err-take_sample_record-clause-refused g c = λ samples counted.
     let maps : ((r.kind == PERF_RECORD_MMAP) || (r.kind == PERF_RECORD_MMAP2)) ≡ false = rw kind refl in
     let names : (r.kind == PERF_RECORD_COMM) ≡ false = rw kind refl in
     let forks : (r.kind == PERF_RECORD_FORK) ≡ false = rw kind refl in
-    let two = drawn-none r maps names forks c.args.files.now (mapped_in c.args.self.now.processes.by_pid) in
+    let two = drawn-none r maps names forks c.args.input.now.files.now (mapped_in c.args.self.now.processes.by_pid) in
     let one : samples_in_kind c.args.record.kind ≡ 1 = rw kind refl in
     failed_as c.from_residual-in_err-take_sample_record.result _ _ c.from_residual-in_err-take_sample_record.ensures.1
-    (ends_more c.args.options.frames c.args.options.frames None (refusal_in r) (c.args.self.now.processes.generations + 2)
-    (c.args.self.now.processes.generations + drawn_in (change_in c.args.files.now r) (mapped_in c.args.self.now.processes.by_pid))
+    (ends_more c.args.input.now.options.frames c.args.input.now.options.frames None (refusal_in r) (c.args.self.now.processes.generations + 2)
+    (c.args.self.now.processes.generations + drawn_in (change_in c.args.input.now.files.now r) (mapped_in c.args.self.now.processes.by_pid))
     (samples + 1) (samples + samples_in_kind c.args.record.kind) c.in_err-take_sample_record.field-0.0
     (λ writes. writes) (λ refusal none. absurd (true≢false (sym (ap is_some none)))) (omega (arith, two)) (omega (arith, one))
     (c.in_err-take_sample_record.ensures.refused samples counted))
@@ -84,7 +84,7 @@ returns-then-record-eq-LOST-clause-state g c =
       named = λ tid. ap (λ all. named_in all tid) c.in_ok-lose.ensures.names
           ∙ sym (named-kept r maps names forks (named_in c.args.self.now.names) tid);
       mapped = λ pid. ap (λ all. mapped_in all.by_pid pid) c.in_ok-lose.ensures.processes
-          ∙ sym (mapped-kept r maps names forks c.args.files.now (mapped_in c.args.self.now.processes.by_pid) pid);
+          ∙ sym (mapped-kept r maps names forks c.args.input.now.files.now (mapped_in c.args.self.now.processes.by_pid) pid);
     }
 
 pub returns-then-record-eq-SAMPLE-clause-read : goal.returns-then-record-eq-SAMPLE-clause-read
@@ -97,7 +97,7 @@ returns-in_err-lose-clause-refused g c = λ samples counted.
     let r = record_view c.args.record in
     let kind : c.args.record.kind ≡ 2 = search rules in
     failed_as c.from_residual-in_err-lose.result _ _ c.from_residual-in_err-lose.ensures.1
-    (ends_more false c.args.options.frames (result_err (lost_at r)) (refusal_in r) 0 _ 0 _ c.in_err-lose.field-0.0
+    (ends_more false c.args.input.now.options.frames (result_err (lost_at r)) (refusal_in r) 0 _ 0 _ c.in_err-lose.field-0.0
     (λ writes. absurd (true≢false (sym writes))) (λ refusal is. lost-refusal r kind ∙ is) (omega arith) (omega arith) c.in_err-lose.ensures.refused)
 
 pub returns-then-record-eq-LOST-clause-read : goal.returns-then-record-eq-LOST-clause-read
@@ -110,7 +110,7 @@ returns-in_err-note-clause-refused g c = λ samples counted.
     let r = record_view c.args.record in
     let other : (r.kind == PERF_RECORD_LOST) ≡ false = search rules in
     failed_as c.from_residual-in_err-note.result _ _ c.from_residual-in_err-note.ensures.1
-    (ends_more false c.args.options.frames (naming_refusal r) (refusal_in r) 0 _ 0 _ c.in_err-note.field-0.0
+    (ends_more false c.args.input.now.options.frames (naming_refusal r) (refusal_in r) 0 _ 0 _ c.in_err-note.field-0.0
     (λ writes. absurd (true≢false (sym writes))) (λ refusal is. naming-refused r refusal other is) (omega arith) (omega arith) c.in_err-note.ensures.refused)
 
 pub returns-in_err-change-clause-refused : goal.returns-in_err-change-clause-refused
@@ -118,8 +118,8 @@ returns-in_err-change-clause-refused g c = λ samples counted.
     let r = record_view c.args.record in
     let other : (r.kind == PERF_RECORD_LOST) ≡ false = search rules in
     failed_as c.from_residual-in_err-change.result _ _ c.from_residual-in_err-change.ensures.1
-    (refused_by c.args.options.frames (refusal_in r) _ _ c.in_err-change.field-0.0
-    (change-refused r c.args.files.now c.in_err-change.field-0.0 other (sym c.in_err-change.ensures.exact)))
+    (refused_by c.args.input.now.options.frames (refusal_in r) _ _ c.in_err-change.field-0.0
+    (change-refused r c.args.input.now.files.now c.in_err-change.field-0.0 other (sym c.in_err-change.ensures.exact)))
 
 apply-ends : (frames : Bool) (refusal : Option RecordingError) (drawn drawn' samples : ℕ) (change : Change) (error : StacksError)
     → drawn ≤ drawn' → (IsWithoutAddress change → ⊥) → MayEnd false None drawn 0 error ⊎ ((error ≡ EmptyMapping) × IsWithoutAddress change)
@@ -132,14 +132,14 @@ apply-ends frames refusal drawn drawn' samples change error more addressed (inr 
 pub returns-in_err-apply-clause-refused : goal.returns-in_err-apply-clause-refused
 returns-in_err-apply-clause-refused g c = λ samples counted.
     let r = record_view c.args.record in
-    let files = c.args.files.now in
+    let files = c.args.input.now.files.now in
     let change = c.in-Some.change in
     let mapped = mapped_in c.args.self.now.processes.by_pid in
     let is : change_in files r ≡ Ok (Some change) = sym c.in_ok-change.ensures.exact ∙ ap (λ read. Ok read) c.in-Some.is in
     let drawn : drawn_in (change_in files r) mapped ≡ drawn_by change mapped = ap (λ read. drawn_in read mapped) is in
     let addressed : IsAddressed (Some change) = subst (λ read. IfOk read IsAddressed) is (change-addressed files r) in
     failed_as c.from_residual-in_err-apply.result _ _ c.from_residual-in_err-apply.ensures.1
-    (apply-ends c.args.options.frames (refusal_in r) (c.args.self.now.processes.generations + drawn_by change mapped)
+    (apply-ends c.args.input.now.options.frames (refusal_in r) (c.args.self.now.processes.generations + drawn_by change mapped)
     (c.args.self.now.processes.generations + drawn_in (change_in files r) mapped) _ change c.in_err-apply.field-0.0
     (omega (arith, drawn)) (not-empty change addressed) c.in_err-apply.ensures.refused)
 
@@ -147,15 +147,15 @@ pub returns-in_ok-apply-clause-read : goal.returns-in_ok-apply-clause-read
 returns-in_ok-apply-clause-read g c =
     let r = record_view c.args.record in
     let other : (r.kind == PERF_RECORD_LOST) ≡ false = search rules in
-    let is : change_in c.args.files.now r ≡ Ok (Some c.in-Some.change) = sym c.in_ok-change.ensures.exact ∙ ap (λ read. Ok read) c.in-Some.is in
-    change-unrefused r c.args.files.now (Some c.in-Some.change) other is
+    let is : change_in c.args.input.now.files.now r ≡ Ok (Some c.in-Some.change) = sym c.in_ok-change.ensures.exact ∙ ap (λ read. Ok read) c.in-Some.is in
+    change-unrefused r c.args.input.now.files.now (Some c.in-Some.change) other is
 
 pub returns-in_default-clause-read : goal.returns-in_default-clause-read
 returns-in_default-clause-read g c =
     let r = record_view c.args.record in
     let other : (r.kind == PERF_RECORD_LOST) ≡ false = search rules in
-    let is : change_in c.args.files.now r ≡ Ok None = sym c.in_ok-change.ensures.exact ∙ ap (λ read. Ok read) c.in_default.is in
-    change-unrefused r c.args.files.now None other is
+    let is : change_in c.args.input.now.files.now r ≡ Ok None = sym c.in_ok-change.ensures.exact ∙ ap (λ read. Ok read) c.in_default.is in
+    change-unrefused r c.args.input.now.files.now None other is
 
 pub returns-in_err-take_sample_record-clause-lost_before : goal.returns-in_err-take_sample_record-clause-lost_before
 returns-in_err-take_sample_record-clause-lost_before g c = λ refusal is.

@@ -33,41 +33,41 @@ loop-timed-init g c = (
     draws = omega arith;
     loses = refl;
     each = tt;
-    taken = AreTaken-none c.args.options.frames c.args.self.now.counts (g.W.Write.contents c.args.out.now);
+    taken = AreTaken-none c.args.input.now.options.frames c.args.self.now.counts (g.W.Write.contents c.args.out.now);
   },
 )
 
 pub loop-timed-preserved : goal.loop-timed-preserved
 loop-timed-preserved g c =
     let l = c.loop-timed in
-    let records = c.args.recording.now.records.items in
-    let attributes = map attribute_view c.args.recording.now.events.attributes.items in
-    let module_of = g.M.ModuleMaker.module_of c.args.maker.now in
-    let gives = g.B.SampleSource.gives c.args.samples.now in
-    let text = text-same module_of g.U.Steps.walker g.U.Steps.is_note g.U.Sampled.starts c.args.options c.args.files.now in
+    let records = c.args.input.now.recording.now.records.items in
+    let attributes = map attribute_view c.args.input.now.recording.now.events.attributes.items in
+    let module_of = g.M.ModuleMaker.module_of c.args.input.now.maker.now in
+    let gives = g.B.SampleSource.gives c.args.input.now.samples.now in
+    let text = text-same module_of g.U.Steps.walker g.U.Steps.is_note g.U.Sampled.starts c.args.input.now.options c.args.input.now.files.now in
     let after = c.in_ok-take_record.ensures in
     let items = c.deref-timed-items.result.now in
     let same = c.deref-timed-items.ensures.value in
     let within : l.timed-index < length items = omega arith in
     let before = count_by is_sample (take l.timed-index records) in (
       after.served,
-      subst (λ samples. AreCounted c.args.options.frames samples c.take_record.new.self.counts)
+      subst (λ samples. AreCounted c.args.input.now.options.frames samples c.take_record.new.self.counts)
           (samples-next items records same l.timed-index _ within) (after.counted before l.invariant.1),
       λ first agrees.
           let so = l.invariant.2 first agrees in
           let left = records-left items records same l.timed-index _ within in
-          step c.args.files.now
-          (IsToldWith module_of g.U.Steps.walker g.U.Steps.is_note g.U.Sampled.starts c.args.options c.args.files.now gives attributes)
+          step c.args.input.now.files.now
+          (IsToldWith module_of g.U.Steps.walker g.U.Steps.is_note g.U.Sampled.starts c.args.input.now.options c.args.input.now.files.now gives attributes)
           (λ r state other named mapped told given. (given.0, given.1, text state other named mapped (sample_in attributes (with_body r given.0)) told given.2))
-          c.args.options.frames (records_in records) first c.args.self.now.counts (g.W.Write.contents c.args.out.now)
+          c.args.input.now.options.frames (records_in records) first c.args.self.now.counts (g.W.Write.contents c.args.out.now)
           c.args.self.now.processes.generations
           _ (records_in (drop (l.timed-index + 1) records)) l.self.names c.take_record.new.self.names
           l.self.processes.by_pid c.take_record.new.self.processes.by_pid l.self.counts c.take_record.new.self.counts
           (g.W.Write.contents l.out) (g.W.Write.contents c.take_record.new.out)
           l.self.processes.generations c.take_record.new.self.processes.generations
-          (subst (λ rest. IsSoFar c.args.files.now
-          (IsToldWith module_of g.U.Steps.walker g.U.Steps.is_note g.U.Sampled.starts c.args.options c.args.files.now gives attributes)
-          c.args.options.frames (records_in records) first c.args.self.now.counts (g.W.Write.contents c.args.out.now)
+          (subst (λ rest. IsSoFar c.args.input.now.files.now
+          (IsToldWith module_of g.U.Steps.walker g.U.Steps.is_note g.U.Sampled.starts c.args.input.now.options c.args.input.now.files.now gives attributes)
+          c.args.input.now.options.frames (records_in records) first c.args.self.now.counts (g.W.Write.contents c.args.out.now)
           c.args.self.now.processes.generations rest
           l.self.names l.self.processes.by_pid l.self.counts (g.W.Write.contents l.out) l.self.processes.generations) left so)
           after.read after.drawn after.state after.sample
@@ -77,32 +77,32 @@ loop-timed-preserved g c =
 pub returns-clause-state : goal.returns-clause-state
 returns-clause-state g c = λ first agrees.
     let l = c.loop-timed in
-    let records = c.args.recording.now.records.items in
+    let records = c.args.input.now.recording.now.records.items in
     let so = l.invariant.2 first agrees in
-    let last : state_over c.args.files.now (records_in (drop l.timed-index records)) so.state ≡ so.state =
-    at_drop_all (λ rest. state_over c.args.files.now (records_in rest) so.state) records l.timed-index (omega arith) in
+    let last : state_over c.args.input.now.files.now (records_in (drop l.timed-index records)) so.state ≡ so.state =
+    at_drop_all (λ rest. state_over c.args.input.now.files.now (records_in rest) so.state) records l.timed-index (omega arith) in
     subst (λ state. Agrees l.self.names l.self.processes.by_pid state) (sym last ∙ so.leads) so.agrees
 
 pub returns-clause-told : goal.returns-clause-told
 returns-clause-told g c = λ first agrees.
     let l = c.loop-timed in
-    let files = c.args.files.now in
-    let records = c.args.recording.now.records.items in
+    let files = c.args.input.now.files.now in
+    let records = c.args.input.now.recording.now.records.items in
     let so = l.invariant.2 first agrees in
     let none : samples_from files so.state (records_in (drop l.timed-index records)) ≡ [] =
     at_drop_all (λ rest. samples_from files so.state (records_in rest)) records l.timed-index (omega arith) in
     let all : so.told ≡ samples_from files first (records_in records) =
     sym (append-nil so.told) ∙ ap (λ rest. so.told ++ rest) (sym none) ∙ so.samples in (
       so.texts,
-      subst (λ told. Each (IsToldWith (g.M.ModuleMaker.module_of c.args.maker.now) g.U.Steps.walker g.U.Steps.is_note g.U.Sampled.starts
-          c.args.options files (g.B.SampleSource.gives c.args.samples.now) (map attribute_view c.args.recording.now.events.attributes.items)) told so.texts) all so.each,
+      subst (λ told. Each (IsToldWith (g.M.ModuleMaker.module_of c.args.input.now.maker.now) g.U.Steps.walker g.U.Steps.is_note g.U.Sampled.starts
+          c.args.input.now.options files (g.B.SampleSource.gives c.args.input.now.samples.now) (map attribute_view c.args.input.now.recording.now.events.attributes.items)) told so.texts) all so.each,
       so.taken,
     )
 
 pub returns-clause-read : goal.returns-clause-read
 returns-clause-read g c =
     let l = c.loop-timed in
-    let records = c.args.recording.now.records.items in
+    let records = c.args.input.now.recording.now.records.items in
     let begun = state_in c.args.self.now.names c.args.self.now.processes.by_pid in
     let so = l.invariant.2 begun (record { named = λ tid. refl; mapped = λ pid. refl }) in
     sym so.unrefused ∙ at_drop_all (λ rest. first_refusal (records_in rest)) records l.timed-index (omega arith)
@@ -115,11 +115,11 @@ same-refusal {T} (Err e) error refusal failed is = sym failed ∙ same_error T e
 pub returns-in_err-take_record-clause-before : goal.returns-in_err-take_record-clause-before
 returns-in_err-take_record-clause-before g c = λ first agrees refusal is.
     let l = c.loop-timed in
-    let files = c.args.files.now in
-    let frames = c.args.options.frames in
-    let records = c.args.recording.now.records.items in
-    let IsText = IsToldWith (g.M.ModuleMaker.module_of c.args.maker.now) g.U.Steps.walker g.U.Steps.is_note g.U.Sampled.starts
-    c.args.options files (g.B.SampleSource.gives c.args.samples.now) (map attribute_view c.args.recording.now.events.attributes.items) in
+    let files = c.args.input.now.files.now in
+    let frames = c.args.input.now.options.frames in
+    let records = c.args.input.now.recording.now.records.items in
+    let IsText = IsToldWith (g.M.ModuleMaker.module_of c.args.input.now.maker.now) g.U.Steps.walker g.U.Steps.is_note g.U.Sampled.starts
+    c.args.input.now.options files (g.B.SampleSource.gives c.args.input.now.samples.now) (map attribute_view c.args.input.now.recording.now.events.attributes.items) in
     let items = c.deref-timed-items.result.now in
     let same = c.deref-timed-items.ensures.value in
     let within : l.timed-index < length items = omega arith in
@@ -145,7 +145,7 @@ returns-in_err-take_record-clause-before g c = λ first agrees refusal is.
 pub returns-clause-lost : goal.returns-clause-lost
 returns-clause-lost g c =
     let l = c.loop-timed in
-    let records = c.args.recording.now.records.items in
+    let records = c.args.input.now.recording.now.records.items in
     let begun = state_in c.args.self.now.names c.args.self.now.processes.by_pid in
     let so = l.invariant.2 begun (record { named = λ tid. refl; mapped = λ pid. refl }) in
     let none = sym so.unrefused ∙ at_drop_all (λ rest. first_refusal (records_in rest)) records l.timed-index (omega arith) in
@@ -155,12 +155,12 @@ returns-clause-lost g c =
 pub returns-in_err-take_record-clause-lost_before : goal.returns-in_err-take_record-clause-lost_before
 returns-in_err-take_record-clause-lost_before g c = λ refusal is.
     let l = c.loop-timed in
-    let files = c.args.files.now in
-    let frames = c.args.options.frames in
-    let records = c.args.recording.now.records.items in
+    let files = c.args.input.now.files.now in
+    let frames = c.args.input.now.options.frames in
+    let records = c.args.input.now.recording.now.records.items in
     let begun = state_in c.args.self.now.names c.args.self.now.processes.by_pid in
-    let IsText = IsToldWith (g.M.ModuleMaker.module_of c.args.maker.now) g.U.Steps.walker g.U.Steps.is_note g.U.Sampled.starts
-    c.args.options files (g.B.SampleSource.gives c.args.samples.now) (map attribute_view c.args.recording.now.events.attributes.items) in
+    let IsText = IsToldWith (g.M.ModuleMaker.module_of c.args.input.now.maker.now) g.U.Steps.walker g.U.Steps.is_note g.U.Sampled.starts
+    c.args.input.now.options files (g.B.SampleSource.gives c.args.input.now.samples.now) (map attribute_view c.args.input.now.recording.now.events.attributes.items) in
     let items = c.deref-timed-items.result.now in
     let within : l.timed-index < length items = omega arith in
     let left = records-left items records c.deref-timed-items.ensures.value l.timed-index _ within in
@@ -179,11 +179,11 @@ returns-in_err-take_record-clause-lost_before g c = λ refusal is.
 pub returns-in_err-take_record-clause-refused : goal.returns-in_err-take_record-clause-refused
 returns-in_err-take_record-clause-refused g c = λ first agrees.
     let l = c.loop-timed in
-    let files = c.args.files.now in
-    let frames = c.args.options.frames in
-    let records = c.args.recording.now.records.items in
-    let IsText = IsToldWith (g.M.ModuleMaker.module_of c.args.maker.now) g.U.Steps.walker g.U.Steps.is_note g.U.Sampled.starts
-    c.args.options files (g.B.SampleSource.gives c.args.samples.now) (map attribute_view c.args.recording.now.events.attributes.items) in
+    let files = c.args.input.now.files.now in
+    let frames = c.args.input.now.options.frames in
+    let records = c.args.input.now.recording.now.records.items in
+    let IsText = IsToldWith (g.M.ModuleMaker.module_of c.args.input.now.maker.now) g.U.Steps.walker g.U.Steps.is_note g.U.Sampled.starts
+    c.args.input.now.options files (g.B.SampleSource.gives c.args.input.now.samples.now) (map attribute_view c.args.input.now.recording.now.events.attributes.items) in
     let items = c.deref-timed-items.result.now in
     let same = c.deref-timed-items.ensures.value in
     let within : l.timed-index < length items = omega arith in

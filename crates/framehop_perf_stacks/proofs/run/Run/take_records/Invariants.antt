@@ -10,12 +10,12 @@ use Rattle.framehop_perf_stacks.proofs.run.Run.take_records.Given as goal
 
 abbrev pub invariant-loop-timed : goal.invariant-loop-timed
 invariant-loop-timed g l =
-    IsServed (g.M.ModuleMaker.module_of l.maker) (λ view. g.U.Unwinder.is_sound view l.self.cache)
+    IsServed (g.M.ModuleMaker.module_of l.input.maker.now) (λ view. g.U.Unwinder.is_sound view l.self.cache)
     l.self.processes.ready l.self.processes.generations
-    × AreCounted l.options.frames (count_by is_sample (take l.timed-index l.recording.records.items)) l.self.counts
+    × AreCounted l.input.options.frames (count_by is_sample (take l.timed-index l.input.recording.now.records.items)) l.self.counts
     × ((first : State) → Agrees l.initial.self.names l.initial.self.processes.by_pid first →
-    IsSoFar l.files (IsToldWith (g.M.ModuleMaker.module_of l.maker) g.U.Steps.walker g.U.Steps.is_note g.U.Sampled.starts l.options l.files
-    (g.B.SampleSource.gives l.samples) (map attribute_view l.recording.events.attributes.items)) l.options.frames (records_in l.recording.records.items) first
+    IsSoFar l.input.files.now (IsToldWith (g.M.ModuleMaker.module_of l.input.maker.now) g.U.Steps.walker g.U.Steps.is_note g.U.Sampled.starts l.input.options l.input.files.now
+    (g.B.SampleSource.gives l.input.samples.now) (map attribute_view l.input.recording.now.events.attributes.items)) l.input.options.frames (records_in l.input.recording.now.records.items) first
     l.initial.self.counts (g.W.Write.contents l.initial.out) l.initial.self.processes.generations
-    (records_in (drop l.timed-index l.recording.records.items))
+    (records_in (drop l.timed-index l.input.recording.now.records.items))
     l.self.names l.self.processes.by_pid l.self.counts (g.W.Write.contents l.out) l.self.processes.generations)

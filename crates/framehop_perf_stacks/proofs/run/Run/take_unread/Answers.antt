@@ -1,23 +1,20 @@
-use Rattle.std.proofs.Common.{◌≡◌, List, [], ℕ, Some, sym, subst}
-use Rattle.framehop_frames.specs.Stack.{no_stack}
-use Rattle.framehop_recording.specs.Sample.{read_chain_view}
-use Rattle.framehop_perf_stacks.specs.Chain.{frames_of_chain}
+use Rattle.std.proofs.Common.{map, [], ap, ◌∙◌, Some, subst}
+use Rattle.framehop_frames.specs.Stack.{shown_frame}
 use Rattle.framehop_perf_stacks.specs.Names.{named_in}
 use Rattle.framehop_perf_stacks.specs.Processes.{mapped_in}
-use Rattle.framehop_perf_stacks.specs.Samples.{SampleStack, of_walk, unread_stack, told_by, IsTaken, IsStackOfChain}
+use Rattle.framehop_perf_stacks.specs.Run.{sample_refusal}
+use Rattle.framehop_perf_stacks.specs.Samples.{SampleStack, unread_stack, told_by, IsTaken}
 use Rattle.framehop_perf_stacks.proofs.run.Run.take_unread.Goals as goal
 
-pub returns-in_ok-take_refused-in-None-clause-taken : goal.returns-in_ok-take_refused-in-None-clause-taken
-returns-in_ok-take_refused-in-None-clause-taken g c =
-    let frames = frames_of_chain c.args.refusal (read_chain_view c.args.sample.chain) in
-    let mappings = mapped_in c.args.self.now.processes.by_pid c.args.sample.pid in
-    let name = named_in c.args.self.now.names c.args.sample.tid in
-    let of : IsStackOfChain frames c.in_ok-stack.field-0 = c.in_ok-stack.ensures in
-    let none : frames ≡ [] = rw c.in-None.is at of in
-    let Taken : List ℕ → SampleStack → Type 0 = λ known stack. IsTaken c.args.options.frames
-    (told_by c.args.options c.args.files.now known (Some c.args.sample) mappings stack [])
-    c.args.self.now.counts c.take_refused.new.counts (g.W.Write.contents c.args.out.now) (g.W.Write.contents c.take_refused.new.out) in
-    let named = subst (λ known. Taken known (of_walk 0 (no_stack c.refusal_name.result.now))) c.get-name.ensures
-    (c.in_ok-take_refused-in-None.ensures.taken c.args.files.now mappings 0) in
-    let why = subst (λ text. Taken name (of_walk 0 (no_stack text))) c.refusal_name.ensures named in
-    subst (λ shown. Taken name (unread_stack c.args.refusal shown)) (sym none) why
+pub returns-clause-taken : goal.returns-clause-taken
+returns-clause-taken g c =
+    let options = c.args.input.now.options in
+    let why = sample_refusal c.args.refusal in
+    let stack = c.chain_stack-stack.ensures
+    ∙ ap (λ why. unread_stack why (map shown_frame c.as_slice.result.now)) c.refusal_name.ensures
+    ∙ ap (λ list. unread_stack why (map shown_frame list)) c.as_slice.ensures.value ∙ ap (unread_stack why) c.in_ok-frames.ensures in
+    subst (λ (stack : SampleStack). IsTaken options.frames
+    (told_by options c.args.input.now.files.now (named_in c.args.self.now.names c.args.sample.tid) (Some c.args.sample)
+    (mapped_in c.args.self.now.processes.by_pid c.args.sample.pid) stack [])
+    c.args.self.now.counts c.take_known.new.self.counts (g.W.Write.contents c.args.out.now) (g.W.Write.contents c.take_known.new.out))
+    stack c.in_ok-take_known.ensures.taken
