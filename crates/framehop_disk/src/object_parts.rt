@@ -64,17 +64,27 @@ struct Sections {
     left_out: Vec<Gap>,
 }
 
-/// Reads a file of a size: of an ELF file with a build id, of 1 MiB or more, without `.rodata`, `.data` and its sections
+/// Reads a file of a size: of one of 1 MiB or more that is neither an ELF nor a PE file the first bytes, by which it is refused;
+/// of an ELF file with a build id, of 1 MiB or more, without `.rodata`, `.data` and its sections
 /// `.debug_*` but for `.debug_frame`, where they come after all code. What comes after them moves to the front, and the section
 /// headers tell where to.
 pub(crate) fn read_object(rt: &HostRuntime, path: &str, size: u64) -> io::Result<Vec<u8>> {
     if size >= SMALLEST {
         let mut file = File::open(rt, path)?;
+        let front = read_at(rt.alloc(), &mut file, 0, ELF_HEADER_SIZE)?;
+        if !is_object(front.as_slice()) {
+            return Ok(front);
+        }
         if let Some(bytes) = read_asked_sections(rt.alloc(), &mut file, size)? {
             return Ok(bytes);
         }
     }
     read_sized(rt, path, size)
+}
+
+/// Returns whether a file may be an ELF or a PE file, by its first bytes.
+fn is_object(front: &[u8]) -> bool {
+    front.starts_with(b"\x7fELF") || front.starts_with(b"MZ")
 }
 
 /// Reads an ELF file of a size without the sections that nothing asks for. `None` of what is to be read whole.
