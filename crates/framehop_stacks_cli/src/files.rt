@@ -130,7 +130,7 @@ fn print_bytes(
 ) -> Result<u8> {
     let (rt, kind) = (request.rt, kind_of(bytes));
     if let Some(misuse) = misuse_of(kind, request.options, request.form) {
-        return refuse_file(rt, path, misuse, 2);
+        return refuse_misused(rt, path, kind, bytes, misuse);
     }
     match kind {
         Kind::Core => print_core(request, path, bytes),
@@ -142,4 +142,22 @@ fn print_bytes(
         }
         Kind::Recording | Kind::Unknown => print_recording(request, path, bytes, folded),
     }
+}
+
+/// Says why a file is not printed as it is asked for, and returns the status: of a text that is no folded stacks why that can't
+/// be read.
+fn refuse_misused(
+    rt: &HostRuntime,
+    path: &str,
+    kind: Kind,
+    bytes: &[u8],
+    misuse: &'static str,
+) -> Result<u8> {
+    if let Kind::Folded = kind {
+        let status = add_folded(rt, path, bytes, &mut Folded::new(rt.alloc()))?;
+        if status > 0 {
+            return Ok(status);
+        }
+    }
+    refuse_file(rt, path, misuse, 2)
 }

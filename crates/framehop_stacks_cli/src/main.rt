@@ -25,16 +25,15 @@ use framehop_cli::{Result, exit_code, usage};
 use framehop_disk::disk::{Disk, Program};
 use framehop_disk::input::read_input;
 use framehop_disk::known_names::KnownNames;
-use framehop_disk::messages::Messages;
+use framehop_disk::messages::say_of;
 use framehop_disk::read_paths::ReadPaths;
 use framehop_perf_stacks::kernel::KernelNames;
 use framehop_perf_stacks::run::Options;
 use kernel::kernel_names;
 use misuse::misuse_of_options;
-use request::{Request, refuse};
+use request::{Request, refuse, refuse_file};
 use sources::Sources;
 use std::cell::Cell;
-use std::io::Write;
 use std::path::PathBuf;
 use std::process::ExitCode;
 use std::{env, fs};
@@ -84,8 +83,7 @@ fn run_options<'w>(
     if let Some(folder) = matches.get_str("perf-map")
         && !is_folder(rt, folder)
     {
-        writeln!(Messages { rt }, "framehop-stacks: {folder}: no folder")?;
-        return Ok(1);
+        return refuse_file(rt, folder, "no folder", 1);
     }
     if let Some(misuse) = misuse_of_options(matches, options) {
         return refuse(rt, misuse, 2);
@@ -176,11 +174,9 @@ fn home(rt: &HostRuntime) -> Option<PathBuf> {
 fn tell_unmapped(rt: &HostRuntime, program: Option<&Program<'_>>) -> Result<()> {
     match program {
         Some(program) if !program.is_mapped.get() => {
-            writeln!(
-                Messages { rt },
-                "framehop-stacks: {}: no mapped file that was asked for has its build id or, where none is known, its name",
-                program.path
-            )?;
+            let why =
+                "no mapped file that was asked for has its build id or, where none is known, its name";
+            say_of(rt, program.path, why)?;
             Ok(())
         }
         _ => Ok(()),
