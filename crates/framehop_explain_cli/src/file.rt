@@ -4,7 +4,7 @@
 //! tell it.
 ghost use Rattle.std.specs.Prelude.{◌≡◌, ◌≢◌, ◌++◌, ℕ, List, codes, None, Ok, Err, IfOk, IfErr, OnOk, string_bytes};
 ghost use Rattle.framehop_core.specs.Memory.{reply};
-ghost use Rattle.framehop_cfi.specs.Entry.{fde_at};
+ghost use Rattle.framehop_cfi.specs.Entry.{cie_at};
 ghost use Rattle.framehop_dwarf.specs.Unwinder.{reading_of};
 ghost use Rattle.framehop.specs.Laws.SectionContents.{table_bytes};
 ghost use Rattle.framehop.specs.ModuleData.{unwind_data_in};
@@ -14,7 +14,7 @@ ghost use Rattle.framehop_explain.specs.Found.{explaining_by};
 ghost use Rattle.framehop_explain_cli.specs.FileText.{frames_in, range_line, row_line, fde_lines, source_lines, is_row, lacks_stack, no_rule_text, told_line, near_text, far_text, pe_line, entry_text, pe_lines, all_functions, functions_unless_asked, IsToldOf, IsAddressText, IsModuleText};
 ghost use Rattle.framehop_explain_cli.specs.Files.{elf_machine, of_elf, of_contents, of_pe, debug_frame_in, elf_of, pe_of, file_of, IsFileText, IsFileProblem};
 ghost use Rattle.framehop_explain_cli.specs.declared.file.FileProblem.TheVariants.{OutOfMemory as NoMemory};
-ghost use Rattle.framehop_explain_cli.specs.Functions.{unread_line, fde_line, entry_line, ends_section, function_lines};
+ghost use Rattle.framehop_explain_cli.specs.Functions.{unread_line, fde_line, entry_line, IsKept, ends_section, function_lines};
 
 use crate::row_text::{RegisterNames, push_row};
 use framehop::aarch64::{ArchAarch64, UnwindRegsAarch64};
@@ -25,7 +25,9 @@ use framehop::x86_64::{ArchX86_64, UnwindRegsX86_64};
 use framehop::{Module, ModuleListError, ModuleSectionInfo, UnwinderError};
 use framehop_cfi::context::UnwindContext;
 use framehop_cfi::dwarf_error::DwarfUnwinderError;
-use framehop_cfi::entry::{EntryHead, FrameDescriptionEntry, UnwindSection, UnwindSectionType};
+use framehop_cfi::entry::{
+    CommonInformationEntry, EntryHead, FrameDescriptionEntry, UnwindSection, UnwindSectionType,
+};
 use framehop_cfi::extent::{EntryExtent, read_extent};
 use framehop_cfi::read_error::ReadError;
 use framehop_cfi::storage::StoreOnHeap;
@@ -48,6 +50,7 @@ use framehop_pe_file::error::PeError;
 use framehop_pe_file::header::Machine as PeMachine;
 use framehop_pe_file::{header, section_header, unwind_sections};
 use std::alloc::{AllocError, Global};
+use std::collections::BTreeMap;
 use thiserror::Error;
 
 /// Why a file is not explained.
@@ -272,7 +275,7 @@ where
     for address in addresses {
         push_address::<A>(alloc, module, *address, &mut out)?;
     }
-    push_functions_unless_asked(module, addresses, &mut out)?;
+    push_functions_unless_asked(alloc, module, addresses, &mut out)?;
     Ok(out)
 }
 
@@ -510,6 +513,7 @@ fn lacks_stack(error: UnwinderError) -> bool
 
 /// Appends a line for each function that a module's unwind data has, where no addresses are asked for.
 fn push_functions_unless_asked(
+    alloc: Global,
     module: &Module<Vec<u8>>,
     addresses: &[u64],
     out: &mut String,
@@ -518,21 +522,25 @@ fn push_functions_unless_asked(
         ++ functions_unless_asked «module».now.unwind_data addresses.now) }
 {
     if addresses.is_empty() {
-        push_all_functions(module, out)
+        push_all_functions(alloc, module, out)
     } else {
         Ok(())
     }
 }
 
 /// Appends a line for each function that a module's unwind data has.
-fn push_all_functions(module: &Module<Vec<u8>>, out: &mut String) -> Result<(), AllocError>
+fn push_all_functions(
+    alloc: Global,
+    module: &Module<Vec<u8>>,
+    out: &mut String,
+) -> Result<(), AllocError>
     ensures { OnOk result (string_bytes out.new ≡ string_bytes out.old ++ all_functions «module».now.unwind_data) }
 {
     if let ModuleUnwindDataInternal::PeUnwindInfo(info) = module.unwind_data() {
         return push_pe_functions(info.pdata.as_slice(), out);
     }
     match call_frames(module) {
-        Some(section) => push_functions(&section, out),
+        Some(section) => push_functions(alloc, &section, out),
         None => Ok(()),
     }
 }
@@ -589,10 +597,15 @@ fn call_frames(module: &Module<Vec<u8>>) -> Option<UnwindSection<'_>>
 }
 
 /// Appends a line for each FDE of a section, in its order. A length of 0 ends `.eh_frame`, and is passed over in
-/// `.debug_frame`.
-fn push_functions(section: &UnwindSection<'_>, out: &mut String) -> Result<(), AllocError>
+/// `.debug_frame`. A CIE is read once, however many FDEs name it.
+fn push_functions(
+    alloc: Global,
+    section: &UnwindSection<'_>,
+    out: &mut String,
+) -> Result<(), AllocError>
     ensures { OnOk result (string_bytes out.new ≡ string_bytes out.old ++ function_lines section.now) }
 {
+    let mut cies = BTreeMap::new(alloc);
     let mut at = 0;
     while at < section.bytes.len() {
         let Ok(extent) = read_extent(section.bytes, at) else {
@@ -601,7 +614,7 @@ fn push_functions(section: &UnwindSection<'_>, out: &mut String) -> Result<(), A
         if ends_section(section, &extent) {
             return Ok(());
         }
-        push_entry(section, at, out)?;
+        push_entry(section, &mut cies, at, out)?;
         at = extent.end;
     }
     Ok(())
@@ -618,22 +631,60 @@ fn ends_section(section: &UnwindSection<'_>, extent: &EntryExtent) -> bool
 }
 
 /// Appends a line for the entry at an offset, if it is an FDE.
-#[tactic(auto, unfolding(crate::specs::Functions::entry_line))]
-fn push_entry(section: &UnwindSection<'_>, at: usize, out: &mut String) -> Result<(), AllocError>
-    ensures { OnOk result (string_bytes out.new ≡ string_bytes out.old ++ entry_line section.now at) }
+#[tactic(auto, unfolding(crate::specs::Functions::entry_line, framehop_cfi::specs::Entry::fde_at))]
+fn push_entry(
+    section: &UnwindSection<'_>,
+    cies: &mut BTreeMap<usize, Result<CommonInformationEntry, ReadError>>,
+    at: usize,
+    out: &mut String,
+) -> Result<(), AllocError>
+    requires { IsKept section.now cies.old }
+    ensures appended { OnOk result (string_bytes out.new ≡ string_bytes out.old ++ entry_line section.now at) }
+    ensures kept { IsKept section.now cies.new }
 {
     match section.head_at(at) {
-        Ok(EntryHead::Fde { .. }) => push_fde_line(section, at, out),
+        Ok(
+            EntryHead::Fde {
+                cie_offset,
+                fields,
+                end,
+            },
+        ) => match read_cie(section, cies, cie_offset)? {
+            Ok(cie) => push_fde_line(at, section.read_fde(&cie, fields, end), out),
+            Err(error) => push_fde_line(at, Err(error), out),
+        },
         _ => Ok(()),
     }
 }
 
+/// Returns the CIE at an offset, or why it can't be read, and keeps it.
+fn read_cie(
+    section: &UnwindSection<'_>,
+    cies: &mut BTreeMap<usize, Result<CommonInformationEntry, ReadError>>,
+    offset: usize,
+) -> Result<Result<CommonInformationEntry, ReadError>, AllocError>
+    requires { IsKept section.now cies.old }
+    ensures exact { IfOk result (λ cie. cie ≡ cie_at section.now offset) }
+    ensures kept { IsKept section.now cies.new }
+{
+    if let Some(cie) = cies.get(&offset) {
+        return Ok(*cie);
+    }
+    let cie = section.cie_from_offset(offset);
+    cies.insert(offset, cie)?;
+    Ok(cie)
+}
+
 /// Appends the line of the FDE at an offset: the addresses that it covers, or why it can't be read.
 #[tactic(auto, unfolding(crate::specs::Functions::fde_line))]
-fn push_fde_line(section: &UnwindSection<'_>, at: usize, out: &mut String) -> Result<(), AllocError>
-    ensures { OnOk result (string_bytes out.new ≡ string_bytes out.old ++ fde_line at (fde_at section.now at)) }
+fn push_fde_line(
+    at: usize,
+    fde: Result<FrameDescriptionEntry, ReadError>,
+    out: &mut String,
+) -> Result<(), AllocError>
+    ensures { OnOk result (string_bytes out.new ≡ string_bytes out.old ++ fde_line at fde) }
 {
-    match section.fde_from_offset(at) {
+    match fde {
         Ok(fde) => {
             let start = fde.initial_address;
             let end = start.wrapping_add(fde.address_range);
