@@ -248,16 +248,27 @@ fn runs_code_in_no_fde(rt: HostRuntime) -> Result<(), Fail> {
     Ok(())
 }
 
+/// The `.eh_frame` of [`EH_FRAME`], whose first FDE has as its CFA the word at rsp: DW_OP_breg7 0, DW_OP_deref.
+const EH_FRAME_BY_WORD: &'static [u8] = &[
+    0x14, 0x00, 0x00, 0x00, 0x00, 0x00, 0x00, 0x00, 0x01, 0x7a, 0x52, 0x00, 0x01, 0x78, 0x10, 0x01,
+    0x1b, 0x0c, 0x07, 0x08, 0x90, 0x01, 0x00, 0x00, 0x14, 0x00, 0x00, 0x00, 0x1c, 0x00, 0x00, 0x00,
+    0xe0, 0xef, 0xff, 0xff, 0x40, 0x00, 0x00, 0x00, 0x00, 0x0f, 0x03, 0x77, 0x00, 0x06, 0x00, 0x00,
+    0x14, 0x00, 0x00, 0x00, 0x34, 0x00, 0x00, 0x00, 0x48, 0xf0, 0xff, 0xff, 0x40, 0x00, 0x00, 0x00,
+    0x00, 0x07, 0x10, 0x00, 0x00, 0x00, 0x00, 0x00, 0x00, 0x00, 0x00, 0x00,
+];
+
 /// Code in the middle of the first FDE's function: mov rsp, rbp; pop rbp; ret. Before the caller a call of *%rax.
 const CODE_OF_ANOTHER_STACK: [(usize, &[u8]); 2] = [
     (0x04, &[0x48, 0x89, 0xec, 0x5d, 0xc3]),
     (0x2e, &[0xff, 0xd0]),
 ];
 
-/// The stack to which rbp leads, with a saved rbp and a return address. That of rsp, 0x9000, can't be read.
-const WORDS_OF_ANOTHER_STACK: [(u64, u64); 3] = [
+/// The stack to which rbp leads, with a saved rbp, a return address, the caller's CFA, and its return address. That of rsp,
+/// 0x9000, can't be read.
+const WORDS_OF_ANOTHER_STACK: [(u64, u64); 4] = [
     (0x7100, 0x7ff0),
     (0x7108, 0x401030),
+    (0x7110, 0x7130),
     (0x7110 + 24, 0x401090),
 ];
 
@@ -270,15 +281,27 @@ const KNOWN_BY_ANOTHER_STACK: [ColumnRow; 3] = [
 
 #[test]
 fn runs_code_whose_row_is_not_known(rt: HostRuntime) -> Result<(), Fail> {
+    let sections = sections_of(0x400000, Some(EH_FRAME_BY_WORD), 0x402000..0x40204c, None);
+    let unwinder = unwinder_x86_64(rt.alloc(), &mut Generations::new(), sections)?;
+    let file = file_of(&CODE_OF_ANOTHER_STACK, &WORDS_OF_ANOTHER_STACK);
+    let memory = dump_of(rt.alloc(), &file, CODE_SIZE)?;
+    let regs = UnwindRegsX86_64::new(0x401004, 0x9000, 0x7100);
+    let found = backtrace_in(rt.alloc(), &unwinder, unwinder.inner(), &memory, regs, 10)?;
+    assert!(rt; frame_row(&found, 1) == Some((0x401030, true, FoundBy::Run)));
+    assert!(rt; has_columns(&found, &KNOWN_BY_ANOTHER_STACK));
+    assert!(rt; (found.end, found.frames.len()) == (BacktraceEnd::Root, 3));
+    Ok(())
+}
+
+#[test]
+fn runs_no_code_for_want_of_the_return_address(rt: HostRuntime) -> Result<(), Fail> {
     let unwinder = unwinder(rt.alloc())?;
     let file = file_of(&CODE_OF_ANOTHER_STACK, &WORDS_OF_ANOTHER_STACK);
     let memory = dump_of(rt.alloc(), &file, CODE_SIZE)?;
     let regs = UnwindRegsX86_64::new(0x401004, 0x9000, 0x7100);
     let rows = unwinder.inner();
     let found = backtrace_in(rt.alloc(), &unwinder, rows, &memory, regs, 10)?;
-    assert!(rt; frame_row(&found, 1) == Some((0x401030, true, FoundBy::Run)));
-    assert!(rt; has_columns(&found, &KNOWN_BY_ANOTHER_STACK));
-    assert!(rt; (found.end, found.frames.len()) == (BacktraceEnd::Root, 3));
+    assert!(rt; (found.end, found.frames.len()) == (BacktraceEnd::ReturnAddressUnknown, 1));
     Ok(())
 }
 
