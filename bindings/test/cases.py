@@ -27,7 +27,7 @@ FIELDS = {
     "rdata": ".rdata", "xdata": ".xdata",
 }
 # the topics whose output has notes, or whose input is a file
-OF_OTHERS = ("check", "explain", "rows", "rules")
+OF_OTHERS = ("check", "core_files", "elf_files", "explain", "minidumps", "pe_files", "recordings", "rows", "rules")
 FIELD_OF = {name: field for field, names in FIELDS.items() for name in names.split()}
 
 
