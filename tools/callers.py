@@ -230,8 +230,8 @@ def public_items(file):
 
 
 def words_of(crate):
-    """The words of a crate's sources, and those that its definitions and proofs bring in."""
-    found = {word for file in files(crate) for word in WORD.findall(without_words(file.read_text()))}
+    """The words of a crate's sources, with what `write!` and `writeln!` call, and those that its definitions and proofs bring in."""
+    found = {word for file in files(crate) for word in WORD.findall(re.sub(r"\bwrite(ln)?!", "write_fmt", without_words(file.read_text())))}
     for file in crate.rglob("*.antt"):
         for use in re.findall(r"^use ([^}]*\})", file.read_text(), re.M):
             found.update(WORD.findall(use))

@@ -88,6 +88,15 @@ def segments_in_turn(count):
     return {"dump": elf(4, [(PT_NOTE, 0, 0, notes), (PT_LOAD, 5, 0x400000, bytes(0x4000)), *loads])}
 
 
+def one_stack(count):
+    """A sixteenth as many threads on one stack of 511 frames, all in a mapped file that isn't there, with a path of 1,000 bytes."""
+    frames = b"".join(struct.pack("<QQ", STACKS + 16 * (at + 1), 0x402000) for at in range(510)) + bytes(16)
+    notes = [thread_note(at + 1, STACKS) for at in range(count // 16)]
+    path = b"/" + b"a" * 999
+    return {"dump": elf(4, [(PT_NOTE, 0, 0, b"".join(notes) + mapped([(0x400000, 0x404000, path)])),
+        (PT_LOAD, 5, 0x400000, bytes(0x4000)), (PT_LOAD, 6, STACKS, frames)])}
+
+
 def overlapping(count):
     """Threads, each with a segment of memory of its own, of which the last two overlap."""
     stacks = [STACKS + PAGE * at for at in range(count)]
@@ -354,7 +363,7 @@ def write(folder, files):
 
 
 KINDS = {function.__name__.replace("_", "-"): function for function in (
-    threads, threads_backwards, segments_in_turn, overlapping, masks, paths, code_in_memory, overlapping_files, mappings_of_one_file, shared_images, one_image, shared_headers,
+    threads, threads_backwards, segments_in_turn, one_stack, overlapping, masks, paths, code_in_memory, overlapping_files, mappings_of_one_file, shared_images, one_image, shared_headers,
     names_of_one_file, shared_code, section_names, notes_of_one_place, many_rules, long_fde, long_expression, minidump_threads, minidump_modules, minidump_shared_headers, minidump_maps, minidump_streams)}
 
 if __name__ == "__main__":

@@ -2,7 +2,6 @@ mod AskedLemmas
 mod DumpLemmas
 mod EachLemmas
 mod MinidumpLemmas
-mod NotedLemmas
 mod ProblemLemmas
 mod EndLemmas
 mod HeadLemmas
@@ -12,3 +11,5 @@ mod OrderLemmas
 mod WithinLemmas
 mod ThreadNameLemmas
 mod ReportLemmas
+mod JsonFloats
+mod JsonHeadLemmas

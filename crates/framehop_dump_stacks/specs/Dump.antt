@@ -1,5 +1,5 @@
 -- What is known of a process that is gone, by a core file or a minidump.
-use Rattle.std.specs.Prelude.{nat_eq, ℕ, List, [], ◌++◌, map, filter, Bool, true, false, not, Option, option_map, is_some, unwrap_or}
+use Rattle.std.specs.Prelude.{nat_eq, ℕ, List, [], ◌++◌, codes, map, filter, Bool, true, false, not, Option, option_map, is_some, unwrap_or}
 use Rattle.std.specs.Cmp.Lexicographic.{pointwise}
 use Rattle.std.specs.List.{find}
 use Rattle.framehop_core.specs.Memory.{Memory}
@@ -10,10 +10,16 @@ use Rattle.framehop_memory.specs.declared.segment.Segment.{Segment}
 use Rattle.framehop_dump_stacks.specs.declared.dump.Cause.{Cause}
 use Rattle.framehop_dump_stacks.specs.declared.dump.Dump.{Dump}
 use Rattle.framehop_dump_stacks.specs.declared.dump.Kind.{Kind}
+use Rattle.framehop_dump_stacks.specs.declared.dump.Kind.TheVariants.{CoreFile, Minidump}
 use Rattle.framehop_dump_stacks.specs.declared.dump.MappedCode.{MappedCode}
 use Rattle.framehop_dump_stacks.specs.declared.dump.Registers.{Registers}
 use Rattle.framehop_dump_stacks.specs.declared.dump.Registers.TheVariants.{Kernel, Context}
 use Rattle.framehop_dump_stacks.specs.declared.dump.Thread.{Thread}
+
+-- what a kind of file is called
+abbrev pub kind_name : Kind → List ℕ
+kind_name CoreFile = codes "core file"
+kind_name Minidump = codes "minidump"
 
 -- registers by their values: as Linux keeps them, and the bits of an address of code that are its signature; or a
 -- context, and the bits that are none

@@ -1,12 +1,12 @@
 -- Why the stacks of a core file or a minidump are not written.
-use Rattle.std.specs.Prelude.{◌≡◌, ◌≢◌, ◌⊎◌, ◌<◌, ◌+◌, ◌-◌, ◌^◌, ℕ, ⊤, List, [], ◌∷◌, Option, Some, None}
+use Rattle.std.specs.Prelude.{◌≡◌, ◌⊎◌, ◌<◌, ◌+◌, ◌-◌, ◌^◌, ℕ, ⊤, Bool, true, false, List, [], ◌∷◌, Option, Some, None}
 use Rattle.framehop_processes.specs.Mappings.{changed_modules}
 use Rattle.framehop_processes.specs.declared.mapping.Mapping.{Mapping}
 use Rattle.framehop_symbols.specs.Source.{SourceView}
 use Rattle.framehop_symbols.specs.declared.files.Files.{Files}
 use Rattle.framehop_dump_stacks.specs.Dump.{MappedCodeView, DumpView}
 use Rattle.framehop_dump_stacks.specs.Minidump.{LoadedView, AreModuleFiles, dump_with}
-use Rattle.framehop_dump_stacks.specs.Modules.{AreFilesAsked, mapping_in, mapped_by}
+use Rattle.framehop_dump_stacks.specs.Modules.{AreFilesFor, mapping_in, mapped_by}
 use Rattle.framehop_dump_stacks.specs.declared.error.DumpStacksError.{DumpStacksError}
 use Rattle.framehop_dump_stacks.specs.declared.error.DumpStacksError.TheVariants.{Core, Minidump, OutOfMemory, GenerationsExhausted, EmptyMapping, CannotWrite}
 
@@ -25,22 +25,22 @@ drawn_over files (code ∷ others) mappings =
 abbrev pub drawn_in : DumpView → Files → ℕ
 drawn_in dump files = 1 + drawn_over files dump.code []
 
--- What an error says, where so many generations are drawn. Memory may always run out, and a write may always fail; the
--- counter of generations ends where it can't give all that are drawn. Nothing is refused.
-abbrev pub MayEnd : ℕ → DumpStacksError → Type 0
-MayEnd drawn OutOfMemory = ⊤
-MayEnd drawn CannotWrite = ⊤
-MayEnd drawn GenerationsExhausted = 2 ^ 64 - 1 < drawn
-MayEnd drawn EmptyMapping = ⊥
-MayEnd drawn (Core refusal) = ⊥
-MayEnd drawn (Minidump refusal) = ⊥
+-- What an error says, where so many generations are drawn. Memory may always run out, a write failed (`true`), or the counter
+-- of generations ends where it can't give all that are drawn. Nothing is refused.
+abbrev pub MayEnd : Bool → ℕ → DumpStacksError → Type 0
+MayEnd failed drawn OutOfMemory = ⊤
+MayEnd failed drawn CannotWrite = failed ≡ true
+MayEnd failed drawn GenerationsExhausted = 2 ^ 64 - 1 < drawn
+MayEnd failed drawn EmptyMapping = ⊥
+MayEnd failed drawn (Core refusal) = ⊥
+MayEnd failed drawn (Minidump refusal) = ⊥
 
--- the same of a dump, by those of its files that are read, where nothing is written
-abbrev pub MayEndUnwritten : SourceView → DumpView → DumpStacksError → Type 0
-MayEndUnwritten source dump error = (error ≡ OutOfMemory)
-    ⊎ ((files : Files) × AreFilesAsked source dump files × (error ≢ CannotWrite) × MayEnd (drawn_in dump files) error)
+-- the same of a dump, by those of its files that are read
+abbrev pub MayEndWithFiles : Bool → Bool → SourceView → DumpView → DumpStacksError → Type 0
+MayEndWithFiles failed all source dump error = (error ≡ OutOfMemory)
+    ⊎ ((files : Files) × AreFilesFor all source dump files × MayEnd failed (drawn_in dump files) error)
 
 -- the same of a minidump, by the files of its modules
-abbrev pub MayEndWithModules : SourceView → DumpView × List LoadedView → DumpStacksError → Type 0
-MayEndWithModules source minidump error = (error ≡ OutOfMemory)
-    ⊎ ((files : Files) × AreModuleFiles source minidump.1 files × MayEnd (drawn_in (dump_with minidump files) files) error)
+abbrev pub MayEndWithModules : Bool → SourceView → DumpView × List LoadedView → DumpStacksError → Type 0
+MayEndWithModules failed source minidump error = (error ≡ OutOfMemory)
+    ⊎ ((files : Files) × AreModuleFiles source minidump.1 files × MayEnd failed (drawn_in (dump_with minidump files) files) error)

@@ -15,9 +15,15 @@ pub mod Modules
 pub mod Ended
 pub mod Problems
 pub mod Thread
-pub mod Noted
+pub mod Walked
 pub mod Signal
 pub mod Exception
 pub mod Text
-pub mod Printed
 pub mod Report
+pub mod Walk
+pub mod JsonCrash
+pub mod JsonModules
+pub mod JsonThreads
+pub mod JsonReport
+-- Lemmas that the laws of a trait import: a reader of the contracts can pass them.
+pub mod Laws

@@ -14,19 +14,15 @@ use Rattle.framehop_symbols.specs.Source.{SourceView}
 use Rattle.framehop_symbols.specs.declared.object_file.ObjectFile.{ObjectFile}
 use Rattle.framehop_symbols.specs.declared.files.Files.{Files}
 use Rattle.framehop_symbols.specs.declared.files.NamedFile.{NamedFile}
-use Rattle.framehop_dump_stacks.specs.Added.{AreFiles, AreLeftOut, AreReadSince, AreReadByRounds}
+use Rattle.framehop_dump_stacks.specs.Added.{AreLeftOut, AreReadSince, AreReadByRounds}
 use Rattle.framehop_dump_stacks.specs.Dump.{MappedCodeView, DumpView, head_of}
 use Rattle.framehop_dump_stacks.specs.Image.{sections_of, sections_in}
 
--- The files whose code is mapped, each once. The build id of each is to be the one that is told.
-abbrev pub AreFilesOf : SourceView → DumpView → Files → Type 0
-AreFilesOf source dump files = AreFiles source (map (λ code. (code.path, code.build_id)) dump.code) files
-
--- the same files, of which nothing was read
+-- the files whose code is mapped, each once, of which nothing was read
 abbrev pub AreLeftOutOf : DumpView → Files → Type 0
 AreLeftOutOf dump files = AreLeftOut (map (λ code. code.path) dump.code) files
 
--- of which some have been read since, or all
+-- of which some have been read since, or all, each by the build id that it is to have
 abbrev pub AreReadOf : SourceView → Bool → DumpView → Files → Files → Type 0
 AreReadOf source all dump old new =
     AreReadSince source all (map (λ code. (code.path, code.build_id)) dump.code) old new
@@ -36,6 +32,11 @@ abbrev pub AreFilesAsked : SourceView → DumpView → Files → Type 0
 AreFilesAsked source dump files =
     (left_out : Files) × AreLeftOutOf dump left_out
     × AreReadByRounds source (map (λ code. (code.path, code.build_id)) dump.code) left_out files
+
+-- the same, where all are to be read at last (`true`) or as they are asked for
+abbrev pub AreFilesFor : Bool → SourceView → DumpView → Files → Type 0
+AreFilesFor true source dump files = (asked : Files) × AreFilesAsked source dump asked × AreReadOf source true dump asked files
+AreFilesFor false source dump files = AreFilesAsked source dump files
 
 -- where the stated address 0 of a file is, by its segments
 abbrev pub base_by : List Segment → MappedCodeView → Option ℕ

@@ -1,7 +1,9 @@
 -- The threads of a process as text.
-use Rattle.std.specs.Prelude.{ℕ, List, [], ◌∷◌, ◌++◌, codes, Option, Some, None}
+use Rattle.std.specs.Prelude.{ℕ, List, [], ◌∷◌, ◌++◌, codes, Bool, Option, Some, None}
 use Rattle.std.specs.Fmt.{decimal}
+use Rattle.std.specs.List.{flat_map}
 use Rattle.framehop_processes.specs.declared.mapping.Mapping.{Mapping}
+use Rattle.framehop_frames.specs.Explained.{shown_with}
 use Rattle.framehop_frames.specs.Line.{plain}
 use Rattle.framehop_frames.specs.Numbered.{numbered_text}
 use Rattle.framehop_frames.specs.Stack.{StackView}
@@ -9,6 +11,7 @@ use Rattle.framehop_symbols.specs.declared.files.Files.{Files}
 use Rattle.framehop_dump_stacks.specs.Dump.{ThreadView, DumpView}
 use Rattle.framehop_dump_stacks.specs.Exception.{unnamed_exception, exception_text}
 use Rattle.framehop_dump_stacks.specs.Signal.{signal_text}
+use Rattle.framehop_dump_stacks.specs.Walked.{WalkedThread}
 use Rattle.framehop_dump_stacks.specs.declared.dump.Cause.{Cause}
 use Rattle.framehop_dump_stacks.specs.declared.dump.Cause.TheVariants.{Signal, Exception, Other}
 
@@ -49,3 +52,12 @@ thread_head name pid thread =
 abbrev pub thread_text : DumpView → Files → List Mapping → ThreadView → StackView → List ℕ
 thread_text dump files mappings thread stack =
     thread_head dump.name dump.pid thread ++ numbered_text files mappings stack
+
+-- the same of a thread with its stack, with its notes under the lines where the block is to be explained
+abbrev pub block_text : Bool → DumpView → Files → List Mapping → WalkedThread → List ℕ
+block_text explain dump files mappings walked =
+    shown_with explain walked.notes (thread_text dump files mappings walked.thread walked.stack)
+
+-- the blocks of threads in their order
+abbrev pub blocks_text : Bool → DumpView → Files → List Mapping → List WalkedThread → List ℕ
+blocks_text explain dump files mappings threads = flat_map (block_text explain dump files mappings) threads

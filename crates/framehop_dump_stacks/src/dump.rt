@@ -1,7 +1,7 @@
 //! What is known of a process that is gone, by a core file or a minidump: its memory, its threads, and the code
 //! that it had mapped.
 ghost use Rattle.std.specs.Prelude.{◌≡◌};
-ghost use Rattle.framehop_dump_stacks.specs.Dump.{dump_view, is_code_at};
+ghost use Rattle.framehop_dump_stacks.specs.Dump.{dump_view, is_code_at, kind_name};
 
 use framehop_coredump::core_file::Machine;
 use framehop_memory::code::CodeSegments;
@@ -139,6 +139,16 @@ pub struct Dump<'a> {
     pub pid: Option<u32>,
     /// Whether it had 32-bit code on a Windows of 64 bits.
     pub wow64: bool,
+}
+
+/// Returns what a kind of file is called.
+pub(crate) fn kind_name(kind: Kind) -> &'static str
+    ensures { result.now ≡ kind_name kind }
+{
+    match kind {
+        Kind::CoreFile => "core file",
+        Kind::Minidump => "minidump",
+    }
 }
 
 /// Returns whether an address (AVMA) is in a segment of memory that may be executed.

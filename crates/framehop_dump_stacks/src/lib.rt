@@ -1,5 +1,5 @@
 //! From a core file or a minidump to stacks: unwinds each thread of a process that is gone, and writes a block for
-//! each.
+//! each, or JSON.
 //!
 //! # Decisions
 //!
@@ -16,10 +16,11 @@
 //! - The vdso is where the auxiliary vector says, with its unwind data from memory, and no names.
 //! - The signal is that of the first NT_PRSTATUS that has one. The address of a fault is printed
 //!   only where the kernel found one (`siginfo_layout`).
-//! - A core file without a thread is refused: nothing printed would say so. The whole text is made
-//!   before any of it is written.
-//! - A core file and a minidump are read into one `Dump`, so all that follows is proved once. With
-//!   `--explain` each thread is walked twice, so the lines are the same by contract.
+//! - A core file without a thread is refused: nothing printed would say so.
+//! - A core file and a minidump are read into one `Dump`, so all that follows is proved once. Its
+//!   threads are walked by one loop, each once, for each kind of `Report`. Of a core file up to 16
+//!   MiB of the text are kept until it is known that nothing more is asked for; a longer one is made
+//!   again as it is written.
 //! - Of a minidump the process's name is that of the first module's file. The exception's code is a
 //!   signal on Linux and Android; its flags are `si_code`, of which 0, as LLDB writes it, tells
 //!   nothing. Return addresses of aarch64 are stripped up to the highest bit of the last module's
@@ -31,15 +32,19 @@
 //!   another file, or by none, and nothing printed would say so.
 #![tactic(auto)]
 
+mod bounded;
 pub mod core_dump;
 pub mod dump;
 pub mod error;
 pub mod exception;
-pub mod explain;
 mod first_mappings;
 mod frame_headers;
 mod heads;
 pub mod image;
+mod json_crash;
+mod json_modules;
+pub mod json_report;
+mod json_threads;
 pub mod machine;
 pub mod minidump;
 mod minidump_cause;
@@ -48,7 +53,6 @@ mod order;
 mod problems;
 pub mod program;
 pub mod report;
-pub mod reporting;
 mod shared_headers;
 pub mod signal;
 pub mod stack;

@@ -3,22 +3,20 @@
 //! A minidump says where a module is loaded, and not which parts of it have code. So the files of the modules are read
 //! first, and the segments of an ELF file are taken from what was read or from its first bytes in memory; a module of
 //! Windows is code as a whole. All else becomes a `Dump`, as of a core file.
-ghost use Rattle.std.specs.Prelude.{◌≡◌, ◌⊎◌, ◌++◌, ◌∷◌, [], ℕ, List, None, Ok, Err, MatchResult, IfOk, IfErr, OnOk, length, map, option_map};
+ghost use Rattle.std.specs.Prelude.{◌≡◌, ◌⊎◌, ◌++◌, ◌∷◌, [], ℕ, None, Ok, Err, MatchResult, IfOk, OnOk, length, map, option_map};
 ghost use Rattle.std.specs.List.{flat_map, list_any};
 ghost use Rattle.framehop_dump_stacks.specs.Added.{object_called};
-ghost use Rattle.framehop_dump_stacks.specs.Dump.{DumpView, thread_view, mapped_code_view, dump_view};
+ghost use Rattle.framehop_dump_stacks.specs.Dump.{thread_view, mapped_code_view, dump_view};
 ghost use Rattle.framehop_memory.specs.Memory.{memory_view};
 ghost use Rattle.framehop_dump_stacks.specs.Image.{segments_in};
-ghost use Rattle.framehop_dump_stacks.specs.Minidump.{each, each_within, names_limit, machine_of, cause_of, last_address, mask_up_to, thread_in, LoadedView, loaded_view, loaded_size, loaded_if, build_id_by, loaded_in, named_in, parts_view, parts_of, minidump_of, separator, file_name, program_name, is_wow64, has_wow64, dumped_threads_of, dump_in, object_segments, or_else, base_by_name, whole, all_regions_of, segment_code, code_by, code_in, code_of, AreModuleFiles, dump_with};
+ghost use Rattle.framehop_dump_stacks.specs.Minidump.{each, each_within, names_limit, machine_of, cause_of, last_address, mask_up_to, thread_in, loaded_view, loaded_size, loaded_if, build_id_by, loaded_in, named_in, parts_view, parts_of, separator, file_name, program_name, is_wow64, has_wow64, dumped_threads_of, dump_in, object_segments, or_else, base_by_name, whole, all_regions_of, segment_code, code_by, code_in, code_of, AreModuleFiles, dump_with};
 ghost use Rattle.framehop_elf.specs.Segment.{loaded_segments_of};
 ghost use Rattle.framehop_minidump.specs.CodeView.{codeview_view};
 ghost use Rattle.framehop_minidump.specs.declared.error.MinidumpError.{MinidumpError};
 ghost use Rattle.framehop_symbols.specs.Files.{is_unix_path, IsAdded};
-ghost use Rattle.framehop_dump_stacks.specs.Refusal.{of_minidump};
 ghost use Rattle.framehop_dump_stacks.specs.ThreadNames.{named_view};
 
 use crate::dump::{Dump, Kind, MappedCode, Registers, Thread};
-use crate::error::DumpStacksError;
 use crate::image::{head_at, segments_in};
 use crate::minidump_cause::cause_of;
 use crate::order::crashed_first;
@@ -480,31 +478,6 @@ fn separator(platform: u32) -> u8
     ensures { result ≡ separator platform }
 {
     if platform == WINDOWS { b'\\' } else { b'/' }
-}
-
-/// Reads a minidump, by its parts, and the files of its modules, each once.
-///
-/// # Errors
-///
-/// `Minidump` with the first refusal of the minidump, and `OutOfMemory`.
-pub fn read_minidump<'a, 'm, S: FileSource>(
-    alloc: Global,
-    file: &'a [u8],
-    parts: &'a Parts,
-    source: &S,
-) -> Result<(Dump<'a>, Files<'m>), DumpStacksError>
-    ensures read { parts_of file.entry.now ≡ Ok (parts_view parts.entry.now) → IfOk result (λ read. (minidump : DumpView × List LoadedView)
-        × (minidump_of file.entry.now ≡ Ok minidump) × AreModuleFiles (S.source source.now) minidump.1 read.1
-        × (dump_view read.0 ≡ dump_with minidump read.1)) }
-    ensures refused { parts_of file.entry.now ≡ Ok (parts_view parts.entry.now) → IfErr result (λ error.
-        (error ≡ DumpStacksError.OutOfMemory)
-        ⊎ ((refusal : MinidumpError) × (minidump_of file.entry.now ≡ Err refusal) × (error ≡ of_minidump refusal))) }
-{
-    let dump = dump_in(alloc, file, parts)?;
-    let modules = parts.modules.as_slice();
-    let files = read_module_files(alloc, modules, source)?;
-    let whole = with_code(alloc, dump, &files, modules)?;
-    Ok((whole, files))
 }
 
 /// Reads the files of modules, each once.

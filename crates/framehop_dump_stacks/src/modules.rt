@@ -7,7 +7,7 @@ ghost use Rattle.framehop_dump_stacks.specs.Dump.{mapped_code_view, dump_view, h
 ghost use Rattle.framehop_dump_stacks.specs.Image.{sections_in, sections_of};
 ghost use Rattle.framehop_dump_stacks.specs.FrameHeaders.{HasHeadersOf};
 ghost use Rattle.framehop_dump_stacks.specs.Ended.{drawn_in, MayEnd};
-ghost use Rattle.framehop_dump_stacks.specs.Modules.{AreFilesOf, AreLeftOutOf, AreReadOf, base_in, mapping_based, mapping_in, mappings_in, module_with, sections_by, module_at};
+ghost use Rattle.framehop_dump_stacks.specs.Modules.{AreLeftOutOf, AreReadOf, base_in, mapping_based, mapping_in, mappings_in, module_with, sections_by, module_at};
 
 use crate::dump::{Dump, MappedCode};
 use crate::error::DumpStacksError;
@@ -20,22 +20,6 @@ use framehop_processes::{Mapping, ModuleMaker, Process, ProcessUnwinder};
 use framehop_symbols::files::{FileSource, FileUnwinder, Files, placed_at};
 use framehop_symbols::mapped_bytes::MappedBytes;
 use std::alloc::{AllocError, Global};
-
-/// Reads the files whose code is mapped, each once.
-pub fn read_files<'m, S: FileSource>(
-    alloc: Global,
-    dump: &Dump<'_>,
-    source: &S,
-) -> Result<Files<'m>, AllocError>
-    ensures { IfOk result (λ files.
-        AreFilesOf (S.source source.now) (dump_view dump.now) files) }
-{
-    let mut files = Files::new(alloc)?;
-    for code in &dump.code {
-        files.add(alloc, source, code.path, code.build_id)?;
-    }
-    Ok(files)
-}
 
 /// Returns the files whose code is mapped, each once, of which nothing is read before [`read_files_asked_for`].
 pub(crate) fn leave_out_files<'m>(alloc: Global, dump: &Dump<'_>) -> Result<Files<'m>, AllocError>
@@ -199,7 +183,7 @@ where
     U::Module: Drop,
     ensures served { IfOk result (λ process. HasModules (M.module_of maker.now) process) }
     ensures mapped { IfOk result (λ process. process.mappings ≡ mappings_in (dump_view dump.now) files.now) }
-    ensures refused { IfErr result (MayEnd (drawn_in (dump_view dump.now) files.now)) }
+    ensures refused { IfErr result (MayEnd false (drawn_in (dump_view dump.now) files.now)) }
 {
     let mut generations = Generations::new();
     let mut process: Process<U> = Process::new(alloc, &mut generations)?;

@@ -1,11 +1,10 @@
 //! What is said of files: of which nothing was read, and of which something was not.
 ghost use Rattle.std.specs.Prelude.{◌≡◌, Some, None, string_bytes, IfOk};
-ghost use Rattle.framehop_symbols.specs.Files.{number_in};
 ghost use Rattle.framehop_symbols.specs.Found.{has_names, is_unwind_data};
 ghost use Rattle.framehop_dump_stacks.specs.Dump.{dump_view};
-ghost use Rattle.framehop_dump_stacks.specs.Problems.{kind_name, range_end, needed_size, sizes_text, cut_text, wow64_text, file_text, lack_text, lack_line, AreObjectLines, IsProblemText, has_frames, is_in_memory, in_memory_text, IsLineOf, AreProblems, IsSaid};
+ghost use Rattle.framehop_dump_stacks.specs.Problems.{range_end, needed_size, sizes_text, cut_text, wow64_text, file_text, lack_text, lack_line, AreObjectLines, IsProblemText, has_frames, is_in_memory, in_memory_text, IsLineOf, AreProblems, IsSaid};
 
-use crate::dump::{Dump, Kind};
+use crate::dump::{Dump, Kind, kind_name};
 use crate::first_mappings::FirstMappings;
 use crate::modules::DumpModules;
 use framehop_frames::line::push_name;
@@ -243,14 +242,4 @@ fn in_memory_text(alloc: Global, kind: Kind, in_memory: bool) -> Result<String, 
     }
     let kind = kind_name(kind);
     Ok(format!(in alloc; "; its unwind data is the {kind}'s")?)
-}
-
-/// Returns what a kind of file is called.
-fn kind_name(kind: Kind) -> &'static str
-    ensures { result.now ≡ kind_name kind }
-{
-    match kind {
-        Kind::CoreFile => "core file",
-        Kind::Minidump => "minidump",
-    }
 }

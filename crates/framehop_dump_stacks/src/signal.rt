@@ -114,7 +114,7 @@ fn fields_text(alloc: Global, signal: u32, sent: Sent) -> Result<String, AllocEr
 /// Returns whether the kernel found a fault of an instruction, and says at which address.
 ///
 /// Source: `sigaction(2)`; Linux, `kernel/signal.c`, `siginfo_layout`.
-pub fn is_fault(signal: u32, code: u32) -> bool
+pub(crate) fn is_fault(signal: u32, code: u32) -> bool
     ensures { result ≡ is_fault signal code }
 {
     (signal == SIGILL

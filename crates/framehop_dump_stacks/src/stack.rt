@@ -7,7 +7,7 @@ ghost use Rattle.framehop_memory.specs.Memory.{memory_view, word_of};
 ghost use Rattle.framehop_frames.specs.Notes.{option_noted};
 ghost use Rattle.framehop_frames.specs.Stack.{option_stack_view};
 ghost use Rattle.framehop_dump_stacks.specs.Dump.{thread_view, dump_view};
-ghost use Rattle.framehop_dump_stacks.specs.Noted.{noted_thread};
+ghost use Rattle.framehop_dump_stacks.specs.Walked.{noted_thread};
 ghost use Rattle.framehop_dump_stacks.specs.Thread.{thread_stack};
 
 use crate::dump::{Dump, Thread, is_code_at};

@@ -1,72 +1,104 @@
 //! The threads of a process as text: a block for each.
 ghost use Rattle.std.specs.Prelude.{◌≡◌, ◌++◌, option_map, string_bytes, IfOk, OnOk};
-ghost use Rattle.framehop.specs.Modules.{UnwinderView};
-ghost use Rattle.framehop.specs.Soundness.{AreApart};
+ghost use Rattle.framehop_processes.specs.Mappings.{IsInOrder};
 ghost use Rattle.framehop_frames.specs.Numbered.{numbered_text};
-ghost use Rattle.framehop_dump_stacks.specs.Dump.{thread_view, dump_view};
-ghost use Rattle.framehop_dump_stacks.specs.Printed.{blocks_of};
-ghost use Rattle.framehop_dump_stacks.specs.Text.{name_text, numbers_text, thread_name_text, reason_text, cause_text, thread_head, thread_text};
-ghost use Rattle.framehop_dump_stacks.specs.Thread.{thread_stack};
+ghost use Rattle.framehop_frames.specs.Stack.{option_stack_view};
+ghost use Rattle.framehop_dump_stacks.specs.Dump.{thread_view};
+ghost use Rattle.framehop_dump_stacks.specs.Text.{name_text, numbers_text, thread_name_text, reason_text, cause_text, thread_head};
 
 use crate::dump::{Cause, Dump, Thread};
 use crate::exception::{exception_text, unnamed_exception};
-use crate::machine::Dumped;
+use crate::report::Report;
 use crate::signal::signal_text;
-use crate::stack::walk_thread;
-use framehop_backtrace::RowRoom;
-use framehop_cfi::storage::StoreOnStack;
+use framehop_explain::Note;
+use framehop_frames::explain::shown_block;
 use framehop_frames::line::{push_name, refused_block};
 use framehop_frames::numbered::numbered_block;
-use framehop_processes::Process;
+use framehop_frames::stack::Stack;
+use framehop_processes::Mapping;
 use framehop_symbols::files::Files;
 use std::alloc::{AllocError, Global};
 
-/// Returns the text of all threads, in their order.
-pub(crate) fn threads_text<U: Dumped>(
-    alloc: Global,
-    dump: &Dump<'_>,
-    files: &Files<'_>,
-    process: &Process<U>,
-    limit: u32,
-) -> Result<Vec<u8>, AllocError>
-where
-    U::Cache: Drop,
-    ensures { IfOk result (λ text. text.items ≡ blocks_of U.walker U.begins limit process.now.unwinder.modules (dump_view dump.now) files.now process.now.mappings) }
-{
-    let mut room = RowRoom::new_in(alloc)?;
-    let mut cache = U::new_cache(alloc)?;
-    let mut text = Vec::new(alloc);
-    for thread in &dump.threads {
-        push_thread(
-            alloc, &mut text, dump, files, process, &mut room, &mut cache, *thread, limit,
-        )?;
-    }
-    Ok(text)
+/// Makes text of a dump: a block for each thread.
+#[derive(Clone, Copy, Drop)]
+pub struct Text {
+    /// Whether a note under each frame says what its caller came from.
+    pub explain: bool,
 }
 
-/// Appends the block of a thread.
-fn push_thread<U: Dumped>(
+impl Report for Text {
+    ghost use Rattle.std.specs.Prelude.{◌≡◌, [], false};
+    ghost use Rattle.framehop_dump_stacks.specs.Text.{block_text, blocks_text};
+    ghost use Rattle.framehop_dump_stacks.specs.Laws.TextParts.{is-by-parts};
+
+    ghost is_explained = { λ report. report.explain };
+
+    ghost is_of_all_files = { λ report. false };
+
+    ghost is_text = { λ report dump files mappings threads text. text ≡ blocks_text report.explain dump files mappings threads };
+
+    ghost is_head = { λ report dump files mappings text. text ≡ [] };
+
+    ghost thread_text = { λ report dump files mappings later walked. block_text report.explain dump files mappings walked };
+
+    ghost end_text = { λ report. [] };
+
+    ghost is_by_parts = { λ report. is-by-parts report.explain };
+
+    fn explains(&self) -> bool {
+        self.explain
+    }
+
+    fn tells_all_files(&self) -> bool {
+        false
+    }
+
+    fn head(
+        &self,
+        alloc: Global,
+        _dump: &Dump<'_>,
+        _files: &Files<'_>,
+        _mappings: &[Mapping],
+    ) -> Result<Vec<u8>, AllocError> {
+        Ok(Vec::new(alloc))
+    }
+
+    fn thread<R: Copy>(
+        &self,
+        alloc: Global,
+        dump: &Dump<'_>,
+        files: &Files<'_>,
+        mappings: &[Mapping],
+        _is_later: bool,
+        thread: Thread<'_>,
+        stack: &Option<Stack<R>>,
+        notes: &[Note],
+    ) -> Result<Vec<u8>, AllocError> {
+        let head = thread_head(alloc, dump.name, dump.pid, thread)?;
+        let lines = stack_lines(alloc, files, mappings, stack)?;
+        let (head, lines) = (head.as_slice(), lines.as_slice());
+        shown_block(alloc, head, lines, self.explain, notes)
+    }
+
+    fn end(&self) -> &'static [u8] {
+        b""
+    }
+}
+
+/// Returns the lines of a stack's frames and of the end of its walk, by its process's mappings in order.
+fn stack_lines<R: Copy>(
     alloc: Global,
-    text: &mut Vec<u8>,
-    dump: &Dump<'_>,
     files: &Files<'_>,
-    process: &Process<U>,
-    room: &mut RowRoom<StoreOnStack>,
-    cache: &mut U::Cache,
-    thread: Thread<'_>,
-    limit: u32,
-) -> Result<(), AllocError>
-    ensures stays_sound { (other : UnwinderView) → AreApart process.now.unwinder other
-        → U.is_sound other cache.old → U.is_sound other cache.new }
-    ensures told { U.is_sound process.now.unwinder cache.old → OnOk result (text.new.items ≡ text.old.items
-        ++ thread_text (dump_view dump.now) files.now process.now.mappings (thread_view thread.entry)
-        (thread_stack U.walker U.begins limit files.now process.now.mappings process.now.unwinder.modules (dump_view dump.now) (thread_view thread.entry))) }
+    mappings: &[Mapping],
+    stack: &Option<Stack<R>>,
+) -> Result<Vec<u8>, AllocError>
+    requires { IsInOrder 0 mappings.now }
+    ensures { IfOk result (λ block. block.items ≡ numbered_text files.now mappings.now (option_stack_view stack.now)) }
 {
-    let head = thread_head(alloc, dump.name, dump.pid, thread)?;
-    let lines = thread_lines(alloc, dump, files, process, room, cache, thread, limit)?;
-    text.extend_from_slice(head.as_slice())?;
-    text.extend_from_slice(lines.as_slice())?;
-    Ok(())
+    match stack {
+        Some(stack) => numbered_block(alloc, files, mappings, stack),
+        None => refused_block(alloc, "no-registers"),
+    }
 }
 
 /// Returns the head of a thread's block.
@@ -141,28 +173,5 @@ pub fn reason_text(alloc: Global, cause: Cause) -> Result<String, AllocError>
         Cause::Signal(signal) => signal_text(alloc, signal),
         Cause::Exception(exception) => exception_text(alloc, exception),
         Cause::Other(code) => unnamed_exception(alloc, code),
-    }
-}
-
-/// Returns the lines of a thread's frames and of the end of its walk.
-fn thread_lines<U: Dumped>(
-    alloc: Global,
-    dump: &Dump<'_>,
-    files: &Files<'_>,
-    process: &Process<U>,
-    room: &mut RowRoom<StoreOnStack>,
-    cache: &mut U::Cache,
-    thread: Thread<'_>,
-    limit: u32,
-) -> Result<Vec<u8>, AllocError>
-    ensures stays_sound { (other : UnwinderView) → AreApart process.now.unwinder other
-        → U.is_sound other cache.old → U.is_sound other cache.new }
-    ensures told { U.is_sound process.now.unwinder cache.old → IfOk result (λ block. block.items ≡ numbered_text files.now process.now.mappings
-        (thread_stack U.walker U.begins limit files.now process.now.mappings process.now.unwinder.modules (dump_view dump.now) (thread_view thread.entry))) }
-{
-    let walked = walk_thread(alloc, dump, files, process, room, cache, thread, limit)?;
-    match walked {
-        Some(stack) => numbered_block(alloc, files, process.mappings(), &stack),
-        None => refused_block(alloc, "no-registers"),
     }
 }

@@ -26,8 +26,8 @@ apart_at xs ys Greater e ne = refl
 pub apart : (line : List ℕ) (key : Vec ℕ Global) → line ≢ key.items → is_line line key ≡ false
 apart line key ne = apart_at line key.items (slice_cmp nat_cmp line key.items) refl ne
 
-module _ (other : List ℕ) (k : Vec ℕ Global) (v : ℕ) (ne : other ≢ k.items) where
-  after_head : (e : Vec ℕ Global × ℕ) (es : List (Vec ℕ Global × ℕ)) (o : Ordering) → by_items k e.0 ≡ o
+module _ {V : Type 0} (other : List ℕ) (k : Vec ℕ Global) (v : V) (ne : other ≢ k.items) where
+  after_head : (e : Vec ℕ Global × V) (es : List (Vec ℕ Global × V)) (o : Ordering) → by_items k e.0 ≡ o
       → lookup (is_line other) (insert_entry by_items es k v) ≡ lookup (is_line other) es
       → lookup (is_line other) (match_ordering o ((k, v) ∷ e ∷ es) ((e.0, v) ∷ es) (e ∷ insert_entry by_items es k v))
       ≡ lookup (is_line other) (e ∷ es)
@@ -38,7 +38,7 @@ module _ (other : List ℕ) (k : Vec ℕ Global) (v : ℕ) (ne : other ≢ k.ite
       rw off refl
   after_head e es Greater eq rest = ap (λ found. cond (is_line other e.0) (Some e.1) found) rest
 
-  pub lookup-insert_other : (es : List (Vec ℕ Global × ℕ))
+  pub lookup-insert_other : (es : List (Vec ℕ Global × V))
       → lookup (is_line other) (insert_entry by_items es k v) ≡ lookup (is_line other) es
   lookup-insert_other [] = rw (apart other k ne) refl
   lookup-insert_other (e ∷ es) = after_head e es (by_items k e.0) refl (lookup-insert_other es)

@@ -1,11 +1,12 @@
 //! Folded stacks of two runs beside one another, as text with two counts: FlameGraph's `difffolded.pl` writes such lines, and
 //! its `flamegraph.pl` reads them.
-ghost use Rattle.std.specs.Prelude.{◌≡◌, ℕ, List, IfOk, OnOk};
+ghost use Rattle.std.specs.Prelude.{◌≡◌, ◌||◌, is_err, ℕ, List, IfOk, OnOk};
 ghost use Rattle.std.specs.Io.KnownBytes.{Appends};
 ghost use Rattle.framehop_folded.specs.Changes.{change_line, changes_text};
 ghost use Rattle.framehop_folded.specs.Folded.{entry_of, with_stack, IsInOrderOfBytes};
 
 use crate::folded::Folded;
+use framehop_output::Output;
 use std::alloc::{AllocError, Global};
 use std::io;
 use std::io::Write;
@@ -52,8 +53,9 @@ impl Changes {
     /// # Errors
     ///
     /// If a write fails.
-    pub fn write<W: Write>(&self, out: &mut W) -> io::Result<()>
-        ensures written { OnOk result (Appends (W.contents out.old) (W.contents out.new) (changes_text self.now)) }
+    pub fn write<W: Write>(&self, out: &mut Output<W>) -> io::Result<()>
+        ensures written { OnOk result (Appends out.old.bytes out.new.bytes (changes_text self.now)) }
+        ensures noted { out.new.has_failed ≡ (out.old.has_failed || is_err result) }
         ensures ordered { IsInOrderOfBytes self.now.new }
     {
         for (stack, count) in self.new.iter() {
@@ -65,8 +67,9 @@ impl Changes {
 }
 
 /// Writes a stack with its counts.
-fn write_line<W: Write>(stack: &[u8], old: u64, new: u64, out: &mut W) -> io::Result<()>
-    ensures { OnOk result (Appends (W.contents out.old) (W.contents out.new) (change_line stack.now old new)) }
+fn write_line<W: Write>(stack: &[u8], old: u64, new: u64, out: &mut Output<W>) -> io::Result<()>
+    ensures written { OnOk result (Appends out.old.bytes out.new.bytes (change_line stack.now old new)) }
+    ensures noted { out.new.has_failed ≡ (out.old.has_failed || is_err result) }
 {
     out.write_all(stack)?;
     writeln!(out, " {old} {new}")?;

@@ -1,10 +1,11 @@
 //! Stacks, each once, with how often they were counted.
-ghost use Rattle.std.specs.Prelude.{◌≡◌, ◌≢◌, ◌+◌, ◌≤◌, ◌^◌, ℕ, List, [], Some, None, OnOk, OnErr, IfErr, IsErr, ◌⊎◌};
+ghost use Rattle.std.specs.Prelude.{◌≡◌, ◌≢◌, ◌+◌, ◌≤◌, ◌^◌, ◌||◌, is_err, ℕ, List, [], Some, None, OnOk, OnErr, IfErr, IsErr, ◌⊎◌};
 ghost use Rattle.std.specs.Io.KnownBytes.{Appends};
 ghost use Rattle.framehop_folded.specs.Folded.{entries_of, entry_of, count_in, total_of, together, with_stack, folded_line, text_of, IsInOrderOfBytes, IsUnchanged, IsTooLarge};
 ghost use Rattle.framehop_folded.specs.declared.error.FoldedError.TheVariants.{OutOfMemory, CountTooLarge};
 
 use crate::error::FoldedError;
+use framehop_output::Output;
 use std::alloc::{AllocError, Global};
 use std::collections::BTreeMap;
 use std::collections::btree_map::Iter;
@@ -119,8 +120,9 @@ impl Folded {
     /// # Errors
     ///
     /// If a write fails.
-    pub fn write<W: Write>(&self, out: &mut W) -> io::Result<()>
-        ensures written { OnOk result (Appends (W.contents out.old) (W.contents out.new) (text_of self.now)) }
+    pub fn write<W: Write>(&self, out: &mut Output<W>) -> io::Result<()>
+        ensures written { OnOk result (Appends out.old.bytes out.new.bytes (text_of self.now)) }
+        ensures noted { out.new.has_failed ≡ (out.old.has_failed || is_err result) }
         ensures ordered { IsInOrderOfBytes self.now }
     {
         for (stack, count) in self.counts.iter() {
@@ -131,8 +133,9 @@ impl Folded {
 }
 
 /// Writes a stack with its count.
-fn write_line<W: Write>(stack: &[u8], count: u64, out: &mut W) -> io::Result<()>
-    ensures { OnOk result (Appends (W.contents out.old) (W.contents out.new) (folded_line stack.now count)) }
+fn write_line<W: Write>(stack: &[u8], count: u64, out: &mut Output<W>) -> io::Result<()>
+    ensures written { OnOk result (Appends out.old.bytes out.new.bytes (folded_line stack.now count)) }
+    ensures noted { out.new.has_failed ≡ (out.old.has_failed || is_err result) }
 {
     out.write_all(stack)?;
     writeln!(out, " {count}")?;

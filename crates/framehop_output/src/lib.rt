@@ -8,11 +8,12 @@
 //!   written.
 #![tactic(auto)]
 
-ghost use Rattle.std.specs.Prelude.{◌≡◌, is_err, is_ok, ◌||◌, OnOk, false};
+ghost use Rattle.std.specs.Prelude.{◌≡◌, is_err, is_ok, ◌||◌, OnOk, IfSome, false};
 ghost use Rattle.std.specs.Io.{WritesAtMost};
 ghost use Rattle.std.specs.Io.KnownBytes.{Keeps, Appends, WriteAppends};
 ghost use Rattle.framehop_output.specs.Output.{output_over};
 
+use std::fmt::Display;
 use std::io;
 use std::io::Write;
 use std::marker::Model;
@@ -51,6 +52,24 @@ impl<W: Write> Output<W> {
         ensures { result ≡ self.now.has_failed }
     {
         self.has_failed
+    }
+
+    /// Writes a text: `write!` and `writeln!` do so by this name.
+    ///
+    /// # Errors
+    ///
+    /// If a write fails.
+    pub fn write_fmt<D: Display>(&mut self, text: D) -> io::Result<()>
+    where
+        D: Drop,
+        ensures bytes { OnOk result (IfSome (D.output text) (Appends self.old.bytes self.new.bytes)) }
+        ensures noted { self.new.has_failed ≡ (self.old.has_failed || is_err result) }
+        ensures unflushed { self.new.is_flushed ≡ false }
+    {
+        let written = self.writer.write_fmt(text);
+        self.has_failed = self.has_failed || written.is_err();
+        self.is_flushed = false;
+        written
     }
 
     /// Returns the writer.

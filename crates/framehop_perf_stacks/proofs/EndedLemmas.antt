@@ -20,21 +20,21 @@ use Rattle.framehop_perf_stacks.specs.declared.error.StacksError.{StacksError}
 use Rattle.framehop_perf_stacks.specs.declared.error.StacksError.TheVariants.{Recording, OutOfMemory, GenerationsExhausted, EmptyMapping, TooManySamples, CannotWrite}
 
 -- a refusal ends a step whose record is refused so
-pub refused_by : (writes : Bool) (refusal : Option RecordingError) (drawn samples : ℕ) (error : RecordingError)
-    → refusal ≡ Some error → MayEnd writes refusal drawn samples (of_recording error)
-refused_by writes refusal drawn samples recording.OutOfMemory is = tt
-refused_by writes refusal drawn samples other is = is
+pub refused_by : (failed : Bool) (refusal : Option RecordingError) (drawn samples : ℕ) (error : RecordingError)
+    → refusal ≡ Some error → MayEnd failed refusal drawn samples (of_recording error)
+refused_by failed refusal drawn samples recording.OutOfMemory is = tt
+refused_by failed refusal drawn samples other is = is
 
--- what ends a step ends one that may write, is refused so, draws or counts more
-pub ends_more : (writes writes' : Bool) (refusal refusal' : Option RecordingError) (drawn drawn' samples samples' : ℕ) (error : StacksError)
-    → (writes ≡ true → writes' ≡ true) → ((e : RecordingError) → refusal ≡ Some e → refusal' ≡ Some e) → drawn ≤ drawn' → samples ≤ samples'
-    → MayEnd writes refusal drawn samples error → MayEnd writes' refusal' drawn' samples' error
-ends_more writes writes' refusal refusal' drawn drawn' samples samples' OutOfMemory w r d s ends = tt
-ends_more writes writes' refusal refusal' drawn drawn' samples samples' CannotWrite w r d s ends = w ends
-ends_more writes writes' refusal refusal' drawn drawn' samples samples' GenerationsExhausted w r d s ends = omega (arith, d, ends)
-ends_more writes writes' refusal refusal' drawn drawn' samples samples' TooManySamples w r d s ends = omega (arith, s, ends)
-ends_more writes writes' refusal refusal' drawn drawn' samples samples' EmptyMapping w r d s ends = absurd ends
-ends_more writes writes' refusal refusal' drawn drawn' samples samples' (Recording error) w r d s ends = r error ends
+-- what ends a step ends one that has failed to write, is refused so, draws or counts more
+pub ends_more : (failed failed' : Bool) (refusal refusal' : Option RecordingError) (drawn drawn' samples samples' : ℕ) (error : StacksError)
+    → (failed ≡ true → failed' ≡ true) → ((e : RecordingError) → refusal ≡ Some e → refusal' ≡ Some e) → drawn ≤ drawn' → samples ≤ samples'
+    → MayEnd failed refusal drawn samples error → MayEnd failed' refusal' drawn' samples' error
+ends_more failed failed' refusal refusal' drawn drawn' samples samples' OutOfMemory w r d s ends = tt
+ends_more failed failed' refusal refusal' drawn drawn' samples samples' CannotWrite w r d s ends = w ends
+ends_more failed failed' refusal refusal' drawn drawn' samples samples' GenerationsExhausted w r d s ends = omega (arith, d, ends)
+ends_more failed failed' refusal refusal' drawn drawn' samples samples' TooManySamples w r d s ends = omega (arith, s, ends)
+ends_more failed failed' refusal refusal' drawn drawn' samples samples' EmptyMapping w r d s ends = absurd ends
+ends_more failed failed' refusal refusal' drawn drawn' samples samples' (Recording error) w r d s ends = r error ends
 
 -- ---- counts
 
@@ -42,36 +42,36 @@ ends_more writes writes' refusal refusal' drawn drawn' samples samples' (Recordi
 pub within_total : (folded : Folded) (line : List ℕ) → count_in folded line ≤ total_of folded
 within_total folded line = lookup-le-sum (is_at (λ key. slice_cmp nat_cmp line key.items)) folded.counts.entries
 
-pub cannot_write : (refusal : Option RecordingError) (drawn samples : ℕ) (error : StacksError) → error ≡ CannotWrite
-    → MayEnd true refusal drawn samples error
-cannot_write refusal drawn samples error is = rw is refl
+pub cannot_write : (failed : Bool) (refusal : Option RecordingError) (drawn samples : ℕ) (error : StacksError) → error ≡ CannotWrite
+    → failed ≡ true → MayEnd failed refusal drawn samples error
+cannot_write failed refusal drawn samples error is has = rw is has
 
-too_many : (writes : Bool) (samples : ℕ) (error : StacksError) → error ≡ TooManySamples → 2 ^ 64 ≤ samples → MayEnd writes None 0 samples error
-too_many writes samples error is large = rw is large
+too_many : (failed : Bool) (samples : ℕ) (error : StacksError) → error ≡ TooManySamples → 2 ^ 64 ≤ samples → MayEnd failed None 0 samples error
+too_many failed samples error is large = rw is large
 
-pub out_of_memory : (writes : Bool) (refusal : Option RecordingError) (drawn samples : ℕ) (error : StacksError) → error ≡ OutOfMemory
-    → MayEnd writes refusal drawn samples error
-out_of_memory writes refusal drawn samples error is = rw is tt
+pub out_of_memory : (failed : Bool) (refusal : Option RecordingError) (drawn samples : ℕ) (error : StacksError) → error ≡ OutOfMemory
+    → MayEnd failed refusal drawn samples error
+out_of_memory failed refusal drawn samples error is = rw is tt
 
-module _ (writes frames : Bool) (counts : Counts) (samples : ℕ) (counted : AreCounted frames samples counts) (line : List ℕ) (error : StacksError) where
+module _ (failed frames : Bool) (counts : Counts) (samples : ℕ) (counted : AreCounted frames samples counts) (line : List ℕ) (error : StacksError) where
   pub sample_ends : (error ≡ OutOfMemory)
       ⊎ ((error ≡ TooManySamples) × ((2 ^ 64 ≤ count_in counts.ends line + 1) ⊎ (2 ^ 64 ≤ counts.samples + 1) ⊎ (2 ^ 64 ≤ counts.unsure + 1) ⊎ (2 ^ 64 ≤ counts.guessed + 1) ⊎ (2 ^ 64 ≤ counts.cut + 1) ⊎ (2 ^ 64 ≤ counts.in_vdso + 1)))
-      → MayEnd writes None 0 (samples + 1) error
-  sample_ends (inl is) = out_of_memory writes None 0 (samples + 1) error is
+      → MayEnd failed None 0 (samples + 1) error
+  sample_ends (inl is) = out_of_memory failed None 0 (samples + 1) error is
   sample_ends (inr (is, inl large)) =
-      too_many writes (samples + 1) error is (omega (arith, large, within_total counts.ends line, counted.ends))
-  sample_ends (inr (is, inr (inl large))) = too_many writes (samples + 1) error is (omega (arith, large, counted.samples))
-  sample_ends (inr (is, inr (inr (inl large)))) = too_many writes (samples + 1) error is (omega (arith, large, counted.unsure))
-  sample_ends (inr (is, inr (inr (inr (inl large))))) = too_many writes (samples + 1) error is (omega (arith, large, counted.guessed))
-  sample_ends (inr (is, inr (inr (inr (inr (inl large)))))) = too_many writes (samples + 1) error is (omega (arith, large, counted.cut))
-  sample_ends (inr (is, inr (inr (inr (inr (inr large)))))) = too_many writes (samples + 1) error is (omega (arith, large, counted.in_vdso))
+      too_many failed (samples + 1) error is (omega (arith, large, within_total counts.ends line, counted.ends))
+  sample_ends (inr (is, inr (inl large))) = too_many failed (samples + 1) error is (omega (arith, large, counted.samples))
+  sample_ends (inr (is, inr (inr (inl large)))) = too_many failed (samples + 1) error is (omega (arith, large, counted.unsure))
+  sample_ends (inr (is, inr (inr (inr (inl large))))) = too_many failed (samples + 1) error is (omega (arith, large, counted.guessed))
+  sample_ends (inr (is, inr (inr (inr (inr (inl large)))))) = too_many failed (samples + 1) error is (omega (arith, large, counted.cut))
+  sample_ends (inr (is, inr (inr (inr (inr (inr large)))))) = too_many failed (samples + 1) error is (omega (arith, large, counted.in_vdso))
 
-pub stack_ends : (writes : Bool) (counts : Counts) (line : List ℕ) (error : StacksError)
+pub stack_ends : (failed : Bool) (counts : Counts) (line : List ℕ) (error : StacksError)
     → (error ≡ OutOfMemory) ⊎ ((error ≡ TooManySamples) × (2 ^ 64 ≤ count_in counts.stacks line + 1))
-    → MayEnd writes None 0 (total_of counts.stacks + 1) error
-stack_ends writes counts line error (inl is) = out_of_memory writes None 0 (total_of counts.stacks + 1) error is
-stack_ends writes counts line error (inr (is, large)) =
-    too_many writes (total_of counts.stacks + 1) error is (omega (arith, large, within_total counts.stacks line))
+    → MayEnd failed None 0 (total_of counts.stacks + 1) error
+stack_ends failed counts line error (inl is) = out_of_memory failed None 0 (total_of counts.stacks + 1) error is
+stack_ends failed counts line error (inr (is, large)) =
+    too_many failed (total_of counts.stacks + 1) error is (omega (arith, large, within_total counts.stacks line))
 
 -- ---- records
 

@@ -8,6 +8,7 @@ mod EventLemmas
 mod LinesLemmas
 mod KallsymsLemmas
 mod EndedLemmas
+mod WrittenLemmas
 mod JsonLemmas
 mod SampledLemmas
 mod SoFarLemmas

@@ -18,7 +18,7 @@ use Rattle.framehop_perf_stacks.specs.declared.recording.Recording.{Recording}
 use Rattle.framehop_perf_stacks.specs.declared.run.Options.{Options}
 use Rattle.framehop_perf_stacks.proofs.BodiesLemmas.{own}
 
-module _ (gives : RecordView → List ℕ → Type 0) (recording : Recording) (files : Files) (options : Options) (before after unsaid said : Option (List ℕ)) where
+module _ (gives : RecordView → List ℕ → Type 0) (failed : Bool) (recording : Recording) (files : Files) (options : Options) (before after unsaid said : Option (List ℕ)) where
   -- what is made of records with bodies that are given, by texts of an architecture
   abbrev pub IsMadeBy : Bool → List RecordView → Folded → Type 0
   IsMadeBy of_aarch64 records folded =
@@ -38,14 +38,14 @@ module _ (gives : RecordView → List ℕ → Type 0) (recording : Recording) (f
   abbrev pub IsMadeAt : Folded → Result (Option RecordingError) StacksError → Type 0
   IsMadeAt folded ended = MatchResult ended
       (λ refusal. IsWhole recording refusal × IsMadeWith gives recording files options folded before after unsaid said)
-      (λ error. MayEndAt recording files error × IsMadeUntilWith gives error recording files options folded before after unsaid said)
+      (λ error. MayEndAt failed recording files error × IsMadeUntilWith gives error recording files options folded before after unsaid said)
 
   abbrev actual : Bool
   actual = are_of_aarch64 (map attribute_view recording.events.attributes.items)
 
   made-at : (folded : Folded) (ended : Result (Option RecordingError) StacksError)
       → IfOk ended (λ refusal. IsWhole recording refusal × IsMadeBy actual (records_in recording.records.items) folded)
-      → IfErr ended (MayEndAt recording files)
+      → IfErr ended (MayEndAt failed recording files)
       → ((refusal : RecordingError) → ended ≡ Err (Refused refusal) → IsMadeBy actual (before_refusal (records_in recording.records.items)) folded)
       → IsMadeAt folded ended
   made-at folded (Ok refusal) whole ends part = whole
@@ -56,21 +56,21 @@ module _ (gives : RecordView → List ℕ → Type 0) (recording : Recording) (f
   made-at folded (Err TooManySamples) whole ends part = (ends, tt)
   made-at folded (Err CannotWrite) whole ends part = (ends, tt)
 
-  made-in : (result : Result Unwound StacksError) → IfOk result (IsWholeBy actual) → IfOk result (λ unwound. IfErr unwound.ended (MayEndAt recording files))
+  made-in : (result : Result Unwound StacksError) → IfOk result (IsWholeBy actual) → IfOk result (λ unwound. IfErr unwound.ended (MayEndAt failed recording files))
       → IfOk result (IsPartBy actual) → IfOk result (λ unwound. IsMadeAt unwound.folded unwound.ended)
   made-in (Ok unwound) whole ends part = made-at unwound.folded unwound.ended whole ends part
   made-in (Err error) whole ends part = tt
 
   -- what is made by the unwinder of an architecture, which is the recording's
   pub made-by : (of_aarch64 : Bool) → actual ≡ of_aarch64 → (result : Result Unwound StacksError) → IfOk result (IsWholeBy of_aarch64)
-      → IfOk result (λ unwound. IfErr unwound.ended (MayEndAt recording files)) → IfOk result (IsPartBy of_aarch64)
+      → IfOk result (λ unwound. IfErr unwound.ended (MayEndAt failed recording files)) → IfOk result (IsPartBy of_aarch64)
       → IfOk result (λ unwound. IsMadeAt unwound.folded unwound.ended)
   made-by of_aarch64 is result whole ends part =
       made-in result (subst (λ b. IfOk result (IsWholeBy b)) (sym is) whole) ends (subst (λ b. IfOk result (IsPartBy b)) (sym is) part)
 
 -- ---- the bodies of a recording in memory
 
-module _ (recording : Recording) (files : Files) (options : Options) (folded : Folded) (before after unsaid said : Option (List ℕ)) where
+module _ (failed : Bool) (recording : Recording) (files : Files) (options : Options) (folded : Folded) (before after unsaid said : Option (List ℕ)) where
   -- what is made of records that have their own bodies
   own-from : (attributes : List AttributeView) (records whole : List RecordView) → Each (IsCompleted own_body) records whole
       → IsMadeFrom attributes whole files options folded before after unsaid said
@@ -91,10 +91,10 @@ module _ (recording : Recording) (files : Files) (options : Options) (folded : F
   pub made-own : (ended : Result (Option RecordingError) StacksError)
       → MatchResult ended
       (λ refusal. IsWhole recording refusal × IsMadeWith own_body recording files options folded before after unsaid said)
-      (λ error. MayEndAt recording files error × IsMadeUntilWith own_body error recording files options folded before after unsaid said)
+      (λ error. MayEndAt failed recording files error × IsMadeUntilWith own_body error recording files options folded before after unsaid said)
       → MatchResult ended
       (λ refusal. IsWhole recording refusal × IsMadeOf recording files options folded before after unsaid said)
-      (λ error. MayEndAt recording files error × IsMadeUntil error recording files options folded before after unsaid said)
+      (λ error. MayEndAt failed recording files error × IsMadeUntil error recording files options folded before after unsaid said)
   made-own (Ok refusal) is =
       (is.0, own-from (map attribute_view recording.events.attributes.items) (records_in recording.records.items) is.1.0 is.1.1 is.1.2)
   made-own (Err error) is = (is.0, own-until error is.1)

@@ -1,5 +1,5 @@
 -- Why a run over records ends before they do.
-use Rattle.std.specs.Prelude.{◌≡◌, ◌<◌, ◌≤◌, ◌+◌, ◌-◌, ◌^◌, ℕ, ⊤, Bool, true, List, [], ◌∷◌, Option, Some, None, is_some, Result, Ok, Err, ◌==◌, ◌||◌, if◌then◌else◌}
+use Rattle.std.specs.Prelude.{◌≡◌, ◌<◌, ◌≤◌, ◌+◌, ◌-◌, ◌^◌, ℕ, ⊤, Bool, true, false, List, [], ◌∷◌, Option, Some, None, is_some, Result, Ok, Err, ◌==◌, ◌||◌, if◌then◌else◌}
 use Rattle.std.specs.Option.{option_or}
 use Rattle.std.specs.Result.{result_err}
 use Rattle.framehop_processes.specs.Mappings.{changed_modules}
@@ -57,12 +57,22 @@ IsWithoutAddress (Map pid mapping) = mapping.end ≤ mapping.start
 IsWithoutAddress (Begin pid) = ⊥
 IsWithoutAddress (Fork pid parent) = ⊥
 
--- What an error of a step says. Memory may always be wanted, a write fails where one is made (`true`), the counter of
--- generations ends where it can't give all that are drawn, there are so many samples, or the record is refused.
+-- What an error of a step says. Memory may always be wanted, a write has failed (`true`), the counter of generations ends where
+-- it can't give all that are drawn, there are so many samples, or the record is refused.
 abbrev pub MayEnd : Bool → Option RecordingError → ℕ → ℕ → StacksError → Type 0
-MayEnd writes refusal drawn samples OutOfMemory = ⊤
-MayEnd writes refusal drawn samples CannotWrite = writes ≡ true
-MayEnd writes refusal drawn samples GenerationsExhausted = 2 ^ 64 - 1 < drawn
-MayEnd writes refusal drawn samples TooManySamples = 2 ^ 64 ≤ samples
-MayEnd writes refusal drawn samples EmptyMapping = ⊥
-MayEnd writes refusal drawn samples (Recording error) = refusal ≡ Some error
+MayEnd failed refusal drawn samples OutOfMemory = ⊤
+MayEnd failed refusal drawn samples CannotWrite = failed ≡ true
+MayEnd failed refusal drawn samples GenerationsExhausted = 2 ^ 64 - 1 < drawn
+MayEnd failed refusal drawn samples TooManySamples = 2 ^ 64 ≤ samples
+MayEnd failed refusal drawn samples EmptyMapping = ⊥
+MayEnd failed refusal drawn samples (Recording error) = refusal ≡ Some error
+
+-- an error says that a write failed
+abbrev pub is_of_write : StacksError → Bool
+is_of_write CannotWrite = true
+is_of_write error = false
+
+-- a result is such an error
+abbrev pub is_unwritten : {T : Type 0} → Result T StacksError → Bool
+is_unwritten (Ok value) = false
+is_unwritten (Err error) = is_of_write error

@@ -5,6 +5,7 @@ pub mod Files
 pub mod Names
 pub mod Processes
 pub mod Ended
+pub mod Written
 pub mod Start
 pub mod Counts
 pub mod Vdso

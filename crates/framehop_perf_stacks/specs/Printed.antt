@@ -95,11 +95,11 @@ IsMadeUntilWith gives (Refused refusal) recording files options folded before af
     (before_refusal (records_in recording.records.items)) files options folded before after unsaid said
 IsMadeUntilWith gives error recording files options folded before after unsaid said = ⊤
 
--- a run over the records of a recording may end with an error
-abbrev pub MayEndAt : Recording → Files → StacksError → Type 0
-MayEndAt recording files error =
+-- a run over the records of a recording may end with an error, where a write has failed or not
+abbrev pub MayEndAt : Bool → Recording → Files → StacksError → Type 0
+MayEndAt failed recording files error =
     let records = records_in recording.records.items in
-    MayEnd true (first_refusal records) (drawn_over files records beginning) (count_by is_sample recording.records.items) error
+    MayEnd failed (first_refusal records) (drawn_over files records beginning) (count_by is_sample recording.records.items) error
 
 -- the line of a recording's files in JSON, by where they were read
 abbrev pub head_of : Recording → Files → List FilePaths → List ℕ

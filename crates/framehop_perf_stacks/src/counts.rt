@@ -78,8 +78,8 @@ impl Counts {
             ⊎ ((refusal ≡ TooManySamples) × ((2 ^ 64 ≤ count_in self.old.ends end.now + 1) ⊎ (2 ^ 64 ≤ self.old.samples + 1)
             ⊎ (2 ^ 64 ≤ self.old.unsure + 1) ⊎ (2 ^ 64 ≤ self.old.guessed + 1) ⊎ (2 ^ 64 ≤ self.old.cut + 1)
             ⊎ (2 ^ 64 ≤ self.old.in_vdso + 1)))) }
-        ensures within { (writes frames : Bool) (samples : ℕ) → AreCounted frames samples self.old
-            → IfErr result (MayEnd writes None 0 (samples + 1)) }
+        ensures within { (failed frames : Bool) (samples : ℕ) → AreCounted frames samples self.old
+            → IfErr result (MayEnd failed None 0 (samples + 1)) }
     {
         let end = Vec::from_slice(alloc, end)?;
         let Some(samples) = self.samples.checked_add(1) else {
@@ -126,7 +126,7 @@ impl Counts {
         ensures lost { self.new.lost ≡ self.old.lost }
         ensures refused { IfErr result (λ refusal. (refusal ≡ OutOfMemory)
             ⊎ ((refusal ≡ TooManySamples) × (2 ^ 64 ≤ count_in self.old.stacks stack.items + 1))) }
-        ensures within { (writes : Bool) → IfErr result (MayEnd writes None 0 (total_of self.old.stacks + 1)) }
+        ensures within { (failed : Bool) → IfErr result (MayEnd failed None 0 (total_of self.old.stacks + 1)) }
     {
         self.stacks.add(stack, 1)?;
         Ok(())

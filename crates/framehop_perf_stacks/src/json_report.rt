@@ -1,10 +1,12 @@
 //! From a recording that was read to its JSON: a line of its files, and then one for each sample or for each stack.
-ghost use Rattle.std.specs.Prelude.{◌≡◌, ◌⊎◌, IfOk, IfErr, OnOk, MatchResult};
+ghost use Rattle.std.specs.Prelude.{◌≡◌, ◌⊎◌, ◌||◌, IfOk, IfErr, OnOk, MatchResult};
 ghost use Rattle.std.specs.Io.KnownBytes.{Appends};
 ghost use Rattle.serde_json.specs.View.{view};
 ghost use Rattle.framehop_folded.specs.Folded.{entries_of};
+ghost use Rattle.framehop_perf_stacks.specs.Ended.{is_unwritten};
 ghost use Rattle.framehop_perf_stacks.specs.Json.{machine_name, head_data, head_line, counted_line, counted_lines};
 ghost use Rattle.framehop_perf_stacks.specs.Printed.{IsWhole, MayEndAt, head_of, IsJsonWith, IsJsonUntilWith};
+ghost use Rattle.framehop_perf_stacks.specs.Written.{has_one_failed, AreNoted};
 ghost use Rattle.framehop_perf_stacks.specs.declared.error.StacksError.TheVariants.{OutOfMemory, CannotWrite};
 
 use crate::error::StacksError;
@@ -15,6 +17,7 @@ use crate::sample_json::counted_line;
 use crate::sample_source::SampleSource;
 use framehop_folded::folded::Folded;
 use framehop_frames::json_files::{FilePaths, files_value};
+use framehop_output::Output;
 use framehop_recording::error::RecordingError;
 use framehop_symbols::files::{Files, NamedFile};
 use serde_json::{Value, json};
@@ -37,18 +40,24 @@ pub fn write_json<B: SampleSource, W: Write, E: Write>(
     paths: &[FilePaths],
     samples: &B,
     options: Options<'_>,
-    out: &mut W,
-    err: &mut E,
+    out: &mut Output<W>,
+    err: &mut Output<E>,
 ) -> Result<Option<RecordingError>, StacksError>
-    ensures { MatchResult result
-        (λ refusal. IsWhole recording.now refusal × IsJsonWith (B.gives samples.now) recording.now files.now paths.now options.entry (W.contents out.old) (W.contents out.new) (E.contents err.old) (E.contents err.new))
-        (λ error. MayEndAt recording.now files.now error × IsJsonUntilWith (B.gives samples.now) error recording.now files.now paths.now options.entry (W.contents out.old) (W.contents out.new) (E.contents err.old) (E.contents err.new)) }
+    ensures made { MatchResult result
+        (λ refusal. IsWhole recording.now refusal × IsJsonWith (B.gives samples.now) recording.now files.now paths.now options.entry out.old.bytes out.new.bytes err.old.bytes err.new.bytes)
+        (λ error. MayEndAt (has_one_failed out.new err.new) recording.now files.now error × IsJsonUntilWith (B.gives samples.now) error recording.now files.now paths.now options.entry out.old.bytes out.new.bytes err.old.bytes err.new.bytes) }
+    ensures noted { AreNoted (is_unwritten result) out.old out.new err.old err.new }
 {
     write_problems(alloc, err, files)?;
     write_head(alloc, recording, files, paths, out)?;
     let unwound = unwind_recording(alloc, recording, files, samples, options, out, err)?;
-    write_counted(alloc, &unwound.folded, out)?;
-    unwound.ended
+    match unwound.ended {
+        Err(StacksError::CannotWrite) => Err(StacksError::CannotWrite),
+        ended => {
+            write_counted(alloc, &unwound.folded, out)?;
+            ended
+        }
+    }
 }
 
 /// Writes the line of a recording's files.
@@ -57,10 +66,11 @@ fn write_head<W: Write>(
     recording: &Recording<'_>,
     files: &Files<'_>,
     paths: &[FilePaths],
-    out: &mut W,
+    out: &mut Output<W>,
 ) -> Result<(), StacksError>
-    ensures written { OnOk result (Appends (W.contents out.old) (W.contents out.new) (head_of recording.now files.now paths.now)) }
+    ensures written { OnOk result (Appends out.old.bytes out.new.bytes (head_of recording.now files.now paths.now)) }
     ensures refused { IfErr result (λ error. (error ≡ OutOfMemory) ⊎ (error ≡ CannotWrite)) }
+    ensures noted { out.new.has_failed ≡ (out.old.has_failed || is_unwritten result) }
 {
     let line = head_line(alloc, is_aarch64(&recording.events), paths, files.list())?;
     out.write_all(line.as_slice())?;
@@ -107,9 +117,14 @@ fn machine_name(is_aarch64: bool) -> &'static str
 }
 
 /// Writes the lines of stacks with their counts, in the order of their bytes.
-fn write_counted<W: Write>(alloc: Global, folded: &Folded, out: &mut W) -> Result<(), StacksError>
-    ensures written { OnOk result (Appends (W.contents out.old) (W.contents out.new) (counted_lines (entries_of folded.now))) }
+fn write_counted<W: Write>(
+    alloc: Global,
+    folded: &Folded,
+    out: &mut Output<W>,
+) -> Result<(), StacksError>
+    ensures written { OnOk result (Appends out.old.bytes out.new.bytes (counted_lines (entries_of folded.now))) }
     ensures refused { IfErr result (λ error. (error ≡ OutOfMemory) ⊎ (error ≡ CannotWrite)) }
+    ensures noted { out.new.has_failed ≡ (out.old.has_failed || is_unwritten result) }
 {
     for (text, count) in folded.iter() {
         write_line(alloc, text.as_slice(), *count, out)?;
@@ -122,10 +137,11 @@ fn write_line<W: Write>(
     alloc: Global,
     text: &[u8],
     count: u64,
-    out: &mut W,
+    out: &mut Output<W>,
 ) -> Result<(), StacksError>
-    ensures written { OnOk result (Appends (W.contents out.old) (W.contents out.new) (counted_line count text.now)) }
+    ensures written { OnOk result (Appends out.old.bytes out.new.bytes (counted_line count text.now)) }
     ensures refused { IfErr result (λ error. (error ≡ OutOfMemory) ⊎ (error ≡ CannotWrite)) }
+    ensures noted { out.new.has_failed ≡ (out.old.has_failed || is_unwritten result) }
 {
     let line = counted_line(alloc, count, text)?;
     out.write_all(line.as_slice())?;

@@ -1,5 +1,5 @@
 //! From the bytes of a recording to folded stacks or blocks.
-ghost use Rattle.std.specs.Prelude.{ℕ, ◌≡◌, ◌⊎◌, Err, IfOk, IfErr, OnOk, OnErr, MatchResult, Option, List, map, true};
+ghost use Rattle.std.specs.Prelude.{ℕ, ◌≡◌, ◌⊎◌, ◌||◌, Err, IfOk, IfErr, OnOk, OnErr, MatchResult, Option, List, map, true};
 ghost use Rattle.std.specs.Io.KnownBytes.{Appends};
 ghost use Rattle.std.specs.Result.{result_err};
 ghost use Rattle.framehop_recording.specs.Attributes.{attribute_view};
@@ -10,9 +10,10 @@ ghost use Rattle.framehop_perf_stacks.specs.Bodies.{IsCompleted};
 ghost use Rattle.framehop_perf_stacks.specs.Choice.{IsChosenOf};
 ghost use Rattle.framehop_perf_stacks.specs.Counts.{advice_text, counted_text, counts_text, cut_text, vdso_text, guess_text, samples_line, samples_text, summary_text, unsure_line};
 ghost use Rattle.framehop_folded.specs.Folded.{IsInOrderOfBytes};
-ghost use Rattle.framehop_perf_stacks.specs.Ended.{before_refusal, MayEnd};
+ghost use Rattle.framehop_perf_stacks.specs.Ended.{before_refusal, is_unwritten, MayEnd};
 ghost use Rattle.framehop_perf_stacks.specs.Files.{AreFilesOf};
 ghost use Rattle.framehop_perf_stacks.specs.Printed.{AreTold, IsMadeOf, IsMadeWith, IsSaid, IsWhole, IsMadeUntil, IsMadeUntilWith, MayEndAt};
+ghost use Rattle.framehop_perf_stacks.specs.Written.{ends_unwritten, has_one_failed, AreNoted};
 ghost use Rattle.framehop_perf_stacks.specs.Recording.{records_in, events_in, IsReadOf};
 ghost use Rattle.framehop_perf_stacks.specs.Samples.{beginning, samples_from, Each, IsToldOf, Told, IsMade};
 ghost use Rattle.framehop_symbols.specs.declared.files.Files.{Files};
@@ -32,6 +33,7 @@ use framehop::aarch64::UnwinderAarch64;
 use framehop::cache::MustNotAllocateDuringUnwind;
 use framehop::x86_64::UnwinderX86_64;
 use framehop_folded::folded::Folded;
+use framehop_output::Output;
 use framehop_processes::ModuleMaker;
 use framehop_recording::error::RecordingError;
 use framehop_symbols::files::{FileModules, FileSource, Files};
@@ -64,18 +66,19 @@ pub fn write_stacks<S: FileSource + MapSource, W: Write, E: Write>(
     source: &S,
     choice: &Choice<'_>,
     options: Options<'_>,
-    out: &mut W,
-    err: &mut E,
+    out: &mut Output<W>,
+    err: &mut Output<E>,
 ) -> Result<Unwound, StacksError>
     ensures made { IfOk result (λ unwound. (whole : Recording) × IsReadOf file.now whole
         × ((recording : Recording) × IsChosenOf choice.now whole recording
         × ((files : Files) × AreFilesOf (S.source source.now) (S.gives_map source.now)
         (map attribute_view recording.events.attributes.items) (map file_build_id_view recording.build_ids.items) (records_in recording.records.items) files
-        × ((unsaid : Option (List ℕ)) × AreTold files (E.contents err.old) unsaid × MatchResult unwound.ended
-        (λ refusal. IsWhole recording refusal × IsMadeOf recording files options.entry unwound.folded (W.contents out.old) (W.contents out.new) unsaid (E.contents err.new))
-        (λ error. MayEndAt recording files error × IsMadeUntil error recording files options.entry unwound.folded (W.contents out.old) (W.contents out.new) unsaid (E.contents err.new)))))) }
-    ensures refused { IfErr result (MayEnd true (result_err (events_in file.now)) 0 0) }
+        × ((unsaid : Option (List ℕ)) × AreTold files err.old.bytes unsaid × MatchResult unwound.ended
+        (λ refusal. IsWhole recording refusal × IsMadeOf recording files options.entry unwound.folded out.old.bytes out.new.bytes unsaid err.new.bytes)
+        (λ error. MayEndAt (has_one_failed out.new err.new) recording files error × IsMadeUntil error recording files options.entry unwound.folded out.old.bytes out.new.bytes unsaid err.new.bytes))))) }
+    ensures refused { IfErr result (MayEnd err.new.has_failed (result_err (events_in file.now)) 0 0) }
     ensures unwritten { OnErr result (out.new ≡ out.old) }
+    ensures noted { AreNoted (ends_unwritten result) out.old out.new err.old err.new }
 {
     let recording = choose(alloc, read_recording(alloc, file)?, choice)?;
     write_recording_stacks(alloc, &recording, source, &InMemory, options, out, err)
@@ -95,16 +98,17 @@ pub fn write_recording_stacks<S: FileSource + MapSource, B: SampleSource, W: Wri
     source: &S,
     samples: &B,
     options: Options<'_>,
-    out: &mut W,
-    err: &mut E,
+    out: &mut Output<W>,
+    err: &mut Output<E>,
 ) -> Result<Unwound, StacksError>
     ensures made { IfOk result (λ unwound. (files : Files) × AreFilesOf (S.source source.now) (S.gives_map source.now)
         (map attribute_view recording.now.events.attributes.items) (map file_build_id_view recording.now.build_ids.items) (records_in recording.now.records.items) files
-        × ((unsaid : Option (List ℕ)) × AreTold files (E.contents err.old) unsaid × MatchResult unwound.ended
-        (λ refusal. IsWhole recording.now refusal × IsMadeWith (B.gives samples.now) recording.now files options.entry unwound.folded (W.contents out.old) (W.contents out.new) unsaid (E.contents err.new))
-        (λ error. MayEndAt recording.now files error × IsMadeUntilWith (B.gives samples.now) error recording.now files options.entry unwound.folded (W.contents out.old) (W.contents out.new) unsaid (E.contents err.new)))) }
-    ensures refused { IfErr result (λ error. (error ≡ OutOfMemory) ⊎ (error ≡ CannotWrite)) }
+        × ((unsaid : Option (List ℕ)) × AreTold files err.old.bytes unsaid × MatchResult unwound.ended
+        (λ refusal. IsWhole recording.now refusal × IsMadeWith (B.gives samples.now) recording.now files options.entry unwound.folded out.old.bytes out.new.bytes unsaid err.new.bytes)
+        (λ error. MayEndAt (has_one_failed out.new err.new) recording.now files error × IsMadeUntilWith (B.gives samples.now) error recording.now files options.entry unwound.folded out.old.bytes out.new.bytes unsaid err.new.bytes))) }
+    ensures refused { IfErr result (λ error. (error ≡ OutOfMemory) ⊎ ((error ≡ CannotWrite) × (err.new.has_failed ≡ true))) }
     ensures unwritten { OnErr result (out.new ≡ out.old) }
+    ensures noted { AreNoted (ends_unwritten result) out.old out.new err.old err.new }
 {
     let files = read_files(alloc, recording, source)?;
     write_problems(alloc, err, &files)?;
@@ -114,11 +118,12 @@ pub fn write_recording_stacks<S: FileSource + MapSource, B: SampleSource, W: Wri
 /// Writes a line for each file of which nothing was read.
 pub(crate) fn write_problems<E: Write>(
     alloc: Global,
-    err: &mut E,
+    err: &mut Output<E>,
     files: &Files,
 ) -> Result<(), StacksError>
-    ensures written { OnOk result (AreTold files.now (E.contents err.old) (E.contents err.new)) }
+    ensures written { OnOk result (AreTold files.now err.old.bytes err.new.bytes) }
     ensures refused { IfErr result (λ error. (error ≡ OutOfMemory) ⊎ (error ≡ CannotWrite)) }
+    ensures noted { err.new.has_failed ≡ (err.old.has_failed || is_unwritten result) }
 {
     let problems = problems_text(alloc, files)?;
     err.write_all(problems.as_slice())?;
@@ -132,14 +137,15 @@ pub(crate) fn unwind_recording<'m, B: SampleSource, W: Write, E: Write>(
     files: &Files<'m>,
     samples: &B,
     options: Options<'_>,
-    out: &mut W,
-    err: &mut E,
+    out: &mut Output<W>,
+    err: &mut Output<E>,
 ) -> Result<Unwound, StacksError>
     ensures made { IfOk result (λ unwound. MatchResult unwound.ended
-        (λ refusal. IsWhole recording.now refusal × IsMadeWith (B.gives samples.now) recording.now files.now options.entry unwound.folded (W.contents out.old) (W.contents out.new) (E.contents err.old) (E.contents err.new))
-        (λ error. MayEndAt recording.now files.now error × IsMadeUntilWith (B.gives samples.now) error recording.now files.now options.entry unwound.folded (W.contents out.old) (W.contents out.new) (E.contents err.old) (E.contents err.new))) }
+        (λ refusal. IsWhole recording.now refusal × IsMadeWith (B.gives samples.now) recording.now files.now options.entry unwound.folded out.old.bytes out.new.bytes err.old.bytes err.new.bytes)
+        (λ error. MayEndAt (has_one_failed out.new err.new) recording.now files.now error × IsMadeUntilWith (B.gives samples.now) error recording.now files.now options.entry unwound.folded out.old.bytes out.new.bytes err.old.bytes err.new.bytes)) }
     ensures refused { IfErr result (λ error. error ≡ OutOfMemory) }
     ensures unwritten { OnErr result (out.new ≡ out.old) }
+    ensures noted { AreNoted (ends_unwritten result) out.old out.new err.old err.new }
 {
     let maker = FileModules { files };
     if is_aarch64(&recording.events) {
@@ -168,8 +174,8 @@ fn unwind_all<U: Sampled, M: ModuleMaker<U>, B: SampleSource, W: Write, E: Write
     maker: &M,
     samples: &B,
     options: Options<'_>,
-    out: &mut W,
-    err: &mut E,
+    out: &mut Output<W>,
+    err: &mut Output<E>,
 ) -> Result<Unwound, StacksError>
 where
     U::Cache: Drop,
@@ -178,17 +184,18 @@ where
         × Each (IsCompleted (B.gives samples.now)) (records_in recording.now.records.items) whole × ((told : List Told)
         × Each (IsToldOf (M.module_of maker.now) U.walker U.is_note U.starts options.entry files.now (map attribute_view recording.now.events.attributes.items))
         (samples_from files.now beginning whole) told
-        × IsMade options.entry.frames told unwound.folded (W.contents out.old) (W.contents out.new)
-        × IsSaid told whole (E.contents err.old) (E.contents err.new))))) }
-    ensures ended { IfOk result (λ unwound. IfErr unwound.ended (MayEndAt recording.now files.now)) }
+        × IsMade options.entry.frames told unwound.folded out.old.bytes out.new.bytes
+        × IsSaid told whole err.old.bytes err.new.bytes)))) }
+    ensures ended { IfOk result (λ unwound. IfErr unwound.ended (MayEndAt (has_one_failed out.new err.new) recording.now files.now)) }
     ensures before { IfOk result (λ unwound. (refusal : RecordingError) → unwound.ended ≡ Err (Refused refusal) → (whole : List RecordView)
         × Each (IsCompleted (B.gives samples.now)) (before_refusal (records_in recording.now.records.items)) whole × ((told : List Told)
         × Each (IsToldOf (M.module_of maker.now) U.walker U.is_note U.starts options.entry files.now (map attribute_view recording.now.events.attributes.items))
         (samples_from files.now beginning whole) told
-        × IsMade options.entry.frames told unwound.folded (W.contents out.old) (W.contents out.new)
-        × IsSaid told whole (E.contents err.old) (E.contents err.new))) }
+        × IsMade options.entry.frames told unwound.folded out.old.bytes out.new.bytes
+        × IsSaid told whole err.old.bytes err.new.bytes)) }
     ensures refused { IfErr result (λ error. error ≡ OutOfMemory) }
     ensures unwritten { OnErr result (out.new ≡ out.old) }
+    ensures noted { AreNoted (ends_unwritten result) out.old out.new err.old err.new }
 {
     let mut run: Run<U> = Run::new(alloc)?;
     let input = Input {
@@ -212,10 +219,11 @@ where
 }
 
 /// Writes what was counted.
-fn write_counts<E: Write>(err: &mut E, counts: &Counts) -> Result<(), StacksError>
-    ensures written { OnOk result (Appends (E.contents err.old) (E.contents err.new) (summary_text counts.now)) }
+fn write_counts<E: Write>(err: &mut Output<E>, counts: &Counts) -> Result<(), StacksError>
+    ensures written { OnOk result (Appends err.old.bytes err.new.bytes (summary_text counts.now)) }
     ensures ordered { OnOk result (IsInOrderOfBytes counts.now.ends) }
     ensures refused { IfErr result (λ error. error ≡ CannotWrite) }
+    ensures noted { err.new.has_failed ≡ (err.old.has_failed || is_unwritten result) }
 {
     write_ends(err, counts)?;
     write_advice(err, counts)?;
@@ -223,9 +231,10 @@ fn write_counts<E: Write>(err: &mut E, counts: &Counts) -> Result<(), StacksErro
 }
 
 /// Writes what can be done for stacks that are cut, and for those with a frame in a vdso of which no file was read.
-fn write_advice<E: Write>(err: &mut E, counts: &Counts) -> Result<(), StacksError>
-    ensures written { OnOk result (Appends (E.contents err.old) (E.contents err.new) (advice_text counts.now)) }
+fn write_advice<E: Write>(err: &mut Output<E>, counts: &Counts) -> Result<(), StacksError>
+    ensures written { OnOk result (Appends err.old.bytes err.new.bytes (advice_text counts.now)) }
     ensures refused { IfErr result (λ error. error ≡ CannotWrite) }
+    ensures noted { err.new.has_failed ≡ (err.old.has_failed || is_unwritten result) }
 {
     write_cut(err, counts.cut)?;
     write_in_vdso(err, counts.in_vdso)?;
@@ -233,10 +242,11 @@ fn write_advice<E: Write>(err: &mut E, counts: &Counts) -> Result<(), StacksErro
 }
 
 /// Writes how many samples there are, and how their stacks ended.
-fn write_ends<E: Write>(err: &mut E, counts: &Counts) -> Result<(), StacksError>
-    ensures written { OnOk result (Appends (E.contents err.old) (E.contents err.new) (counts_text counts.now)) }
+fn write_ends<E: Write>(err: &mut Output<E>, counts: &Counts) -> Result<(), StacksError>
+    ensures written { OnOk result (Appends err.old.bytes err.new.bytes (counts_text counts.now)) }
     ensures ordered { OnOk result (IsInOrderOfBytes counts.now.ends) }
     ensures refused { IfErr result (λ error. error ≡ CannotWrite) }
+    ensures noted { err.new.has_failed ≡ (err.old.has_failed || is_unwritten result) }
 {
     write_samples(err, counts.samples, counts.lost)?;
     write_unsure(err, counts.unsure)?;
@@ -248,9 +258,10 @@ fn write_ends<E: Write>(err: &mut E, counts: &Counts) -> Result<(), StacksError>
 
 /// Writes how many samples were counted, and how many records the kernel lost.
 #[tactic(auto, unfolding(crate::specs::Counts::samples_line))]
-fn write_samples<E: Write>(err: &mut E, samples: u64, lost: u64) -> Result<(), StacksError>
-    ensures written { OnOk result (Appends (E.contents err.old) (E.contents err.new) (samples_line samples lost)) }
+fn write_samples<E: Write>(err: &mut Output<E>, samples: u64, lost: u64) -> Result<(), StacksError>
+    ensures written { OnOk result (Appends err.old.bytes err.new.bytes (samples_line samples lost)) }
     ensures refused { IfErr result (λ error. error ≡ CannotWrite) }
+    ensures noted { err.new.has_failed ≡ (err.old.has_failed || is_unwritten result) }
 {
     write_counted(err, samples)?;
     writeln!(err, ", {lost} records lost by the kernel")?;
@@ -259,9 +270,10 @@ fn write_samples<E: Write>(err: &mut E, samples: u64, lost: u64) -> Result<(), S
 
 /// Writes how many samples were counted.
 #[tactic(auto, unfolding(crate::specs::Counts::counted_text))]
-fn write_counted<E: Write>(err: &mut E, samples: u64) -> Result<(), StacksError>
-    ensures written { OnOk result (Appends (E.contents err.old) (E.contents err.new) (counted_text samples)) }
+fn write_counted<E: Write>(err: &mut Output<E>, samples: u64) -> Result<(), StacksError>
+    ensures written { OnOk result (Appends err.old.bytes err.new.bytes (counted_text samples)) }
     ensures refused { IfErr result (λ error. error ≡ CannotWrite) }
+    ensures noted { err.new.has_failed ≡ (err.old.has_failed || is_unwritten result) }
 {
     if samples == 0 {
         write!(err, "no sample is counted")?;
@@ -272,9 +284,10 @@ fn write_counted<E: Write>(err: &mut E, samples: u64) -> Result<(), StacksError>
 
 /// Writes how many samples have a frame that no unwind data tells.
 #[tactic(auto, unfolding(crate::specs::Counts::unsure_line))]
-fn write_unsure<E: Write>(err: &mut E, unsure: u64) -> Result<(), StacksError>
-    ensures written { OnOk result (Appends (E.contents err.old) (E.contents err.new) (unsure_line unsure)) }
+fn write_unsure<E: Write>(err: &mut Output<E>, unsure: u64) -> Result<(), StacksError>
+    ensures written { OnOk result (Appends err.old.bytes err.new.bytes (unsure_line unsure)) }
     ensures refused { IfErr result (λ error. error ≡ CannotWrite) }
+    ensures noted { err.new.has_failed ≡ (err.old.has_failed || is_unwritten result) }
 {
     write_number(err, unsure)?;
     writeln!(err, " with frames that no unwind data tells")?;
@@ -282,9 +295,10 @@ fn write_unsure<E: Write>(err: &mut E, unsure: u64) -> Result<(), StacksError>
 }
 
 /// Writes a number of samples.
-fn write_number<E: Write>(err: &mut E, samples: u64) -> Result<(), StacksError>
-    ensures written { OnOk result (Appends (E.contents err.old) (E.contents err.new) (samples_text samples)) }
+fn write_number<E: Write>(err: &mut Output<E>, samples: u64) -> Result<(), StacksError>
+    ensures written { OnOk result (Appends err.old.bytes err.new.bytes (samples_text samples)) }
     ensures refused { IfErr result (λ error. error ≡ CannotWrite) }
+    ensures noted { err.new.has_failed ≡ (err.old.has_failed || is_unwritten result) }
 {
     let noun = if samples == 1 { "sample" } else { "samples" };
     write!(err, "{samples} {noun}")?;
@@ -292,9 +306,10 @@ fn write_number<E: Write>(err: &mut E, samples: u64) -> Result<(), StacksError>
 }
 
 /// Writes how many samples have a caller by a guess, if some have.
-fn write_guessed<E: Write>(err: &mut E, guessed: u64) -> Result<(), StacksError>
-    ensures written { OnOk result (Appends (E.contents err.old) (E.contents err.new) (guess_text guessed)) }
+fn write_guessed<E: Write>(err: &mut Output<E>, guessed: u64) -> Result<(), StacksError>
+    ensures written { OnOk result (Appends err.old.bytes err.new.bytes (guess_text guessed)) }
     ensures refused { IfErr result (λ error. error ≡ CannotWrite) }
+    ensures noted { err.new.has_failed ≡ (err.old.has_failed || is_unwritten result) }
 {
     if guessed > 0 {
         write_number(err, guessed)?;
@@ -304,9 +319,10 @@ fn write_guessed<E: Write>(err: &mut E, guessed: u64) -> Result<(), StacksError>
 }
 
 /// Writes how many stacks are cut where their copies end, if some are.
-fn write_cut<E: Write>(err: &mut E, cut: u64) -> Result<(), StacksError>
-    ensures written { OnOk result (Appends (E.contents err.old) (E.contents err.new) (cut_text cut)) }
+fn write_cut<E: Write>(err: &mut Output<E>, cut: u64) -> Result<(), StacksError>
+    ensures written { OnOk result (Appends err.old.bytes err.new.bytes (cut_text cut)) }
     ensures refused { IfErr result (λ error. error ≡ CannotWrite) }
+    ensures noted { err.new.has_failed ≡ (err.old.has_failed || is_unwritten result) }
 {
     if cut > 0 {
         write_number(err, cut)?;
@@ -319,9 +335,10 @@ fn write_cut<E: Write>(err: &mut E, cut: u64) -> Result<(), StacksError>
 }
 
 /// Writes how many samples have a frame in a vdso of which no file was read, if some have.
-fn write_in_vdso<E: Write>(err: &mut E, in_vdso: u64) -> Result<(), StacksError>
-    ensures written { OnOk result (Appends (E.contents err.old) (E.contents err.new) (vdso_text in_vdso)) }
+fn write_in_vdso<E: Write>(err: &mut Output<E>, in_vdso: u64) -> Result<(), StacksError>
+    ensures written { OnOk result (Appends err.old.bytes err.new.bytes (vdso_text in_vdso)) }
     ensures refused { IfErr result (λ error. error ≡ CannotWrite) }
+    ensures noted { err.new.has_failed ≡ (err.old.has_failed || is_unwritten result) }
 {
     if in_vdso > 0 {
         write_number(err, in_vdso)?;

@@ -2,7 +2,7 @@
 //!
 //! The files that a recording maps are read before, so what makes modules stays as it is while processes change.
 //! All processes share one cache, since generations tell their lists of modules apart.
-ghost use Rattle.std.specs.Prelude.{ℕ, ◌≡◌, ◌++◌, true, ◌≢◌, ◌≤◌, ◌+◌, ◌-◌, ◌^◌, min, ◌&&◌, [], Some, None, IfOk, IfErr, OnOk, OnErr, Ok, Err, IsSome, Bool, false, List, map, count_by};
+ghost use Rattle.std.specs.Prelude.{ℕ, ◌≡◌, ◌++◌, true, ◌≢◌, ◌≤◌, ◌+◌, ◌-◌, ◌^◌, min, ◌&&◌, ◌||◌, [], Some, None, IfOk, IfErr, OnOk, OnErr, Ok, Err, IsSome, Bool, false, List, map, count_by};
 ghost use Rattle.std.specs.Result.{result_err, result_unwrap_or};
 ghost use Rattle.framehop.specs.Modules.{ModuleView};
 ghost use Rattle.framehop_folded.specs.Folded.{entry_of};
@@ -17,7 +17,7 @@ ghost use Rattle.framehop_recording.specs.declared.error.RecordingError.{Recordi
 ghost use Rattle.framehop_perf_stacks.specs.Chain.{frames_of_chain};
 ghost use Rattle.framehop_perf_stacks.specs.Changes.{change_in};
 ghost use Rattle.framehop_perf_stacks.specs.Counts.{CountsOneMore, HasSameSamples};
-ghost use Rattle.framehop_perf_stacks.specs.Ended.{refusal_in, first_refusal, before_refusal, drawn_in, MayEnd};
+ghost use Rattle.framehop_perf_stacks.specs.Ended.{refusal_in, first_refusal, before_refusal, drawn_in, is_unwritten, MayEnd};
 ghost use Rattle.framehop_perf_stacks.specs.Names.{named_in};
 ghost use Rattle.framehop_perf_stacks.specs.Processes.{mapped_in, ready_in, IsServed};
 ghost use Rattle.framehop_perf_stacks.specs.Recording.{sample_in, records_in};
@@ -51,6 +51,7 @@ use framehop_explain::Note;
 use framehop_frames::line::{has_guess, sure_part};
 use framehop_frames::machine::Start;
 use framehop_frames::stack::{Stack, StackFrame};
+use framehop_output::Output;
 use framehop_processes::{Mapping, ModuleMaker};
 use framehop_recording::chain::user_part;
 use framehop_recording::error::RecordingError;
@@ -141,7 +142,7 @@ where
         sample: Sample<'_>,
         stack: EndedStack<'_, R>,
         notes: &[Note],
-        out: &mut W,
+        out: &mut Output<W>,
     ) -> Result<(), StacksError>
         requires { IsSome (ready_in self.old.processes.by_pid self.old.processes.ready sample.pid) }
         ensures counted { OnOk result (CountsMore input.now.options.frames 1 self.old.counts self.new.counts) }
@@ -150,9 +151,10 @@ where
         ensures cache { self.new.cache ≡ self.old.cache }
         ensures taken { OnOk result (IsTaken input.now.options.frames
             (told_by input.now.options input.now.files.now (named_in self.old.names sample.entry.tid) (Some sample.entry) (mapped_in self.old.processes.by_pid sample.entry.pid) (stack_of stack.entry) notes.now)
-            self.old.counts self.new.counts (W.contents out.old) (W.contents out.new)) }
+            self.old.counts self.new.counts out.old.bytes out.new.bytes) }
         ensures refused { (samples : ℕ) → AreCounted input.now.options.frames samples self.old.counts
-            → IfErr result (MayEnd input.now.options.frames None 0 (samples + 1)) }
+            → IfErr result (MayEnd (input.now.options.frames && out.new.has_failed) None 0 (samples + 1)) }
+        ensures noted { out.new.has_failed ≡ (out.old.has_failed || is_unwritten result) }
     {
         let at = SampleAt {
             sample: Some(sample),
@@ -173,7 +175,7 @@ where
         sample: Sample<'_>,
         mask: u64,
         user: UserStack<'_>,
-        out: &mut W,
+        out: &mut Output<W>,
     ) -> Result<(), StacksError>
         requires { IsSome (ready_in self.old.processes.by_pid self.old.processes.ready sample.pid) }
         ensures served { OnOk result ((module_of : Mapping → ModuleView)
@@ -186,9 +188,10 @@ where
             → IsServed module_of (λ view. U.is_sound view self.old.cache) self.old.processes.ready self.old.processes.generations
             → (stack : SampleStack) × ((notes : List (List ℕ)) × IsUserStack U.walker U.is_note U.starts (input.now.options.frames && input.now.options.explain) input.now.options.limit input.now.files.now (mapped_in self.old.processes.by_pid sample.entry.pid) (map module_of (mapped_in self.old.processes.by_pid sample.entry.pid)) mask (read_chain_view sample.entry.chain) (Ok (user_view user.entry)) stack notes
             × IsTaken input.now.options.frames (told_by input.now.options input.now.files.now (named_in self.old.names sample.entry.tid) (Some sample.entry) (mapped_in self.old.processes.by_pid sample.entry.pid) stack notes)
-            self.old.counts self.new.counts (W.contents out.old) (W.contents out.new))) }
+            self.old.counts self.new.counts out.old.bytes out.new.bytes)) }
         ensures refused { (samples : ℕ) → AreCounted input.now.options.frames samples self.old.counts
-            → IfErr result (MayEnd input.now.options.frames None 0 (samples + 1)) }
+            → IfErr result (MayEnd (input.now.options.frames && out.new.has_failed) None 0 (samples + 1)) }
+        ensures noted { out.new.has_failed ≡ (out.old.has_failed || is_unwritten result) }
     {
         let process = self.processes.known(sample.pid);
         let start = U::start(process.greatest_end(), mask, user.registers);
@@ -222,7 +225,7 @@ where
         input: &Input<'_, '_, '_, M, B>,
         sample: Sample<'_>,
         refusal: RecordingError,
-        out: &mut W,
+        out: &mut Output<W>,
     ) -> Result<(), StacksError>
         requires { IsSome (ready_in self.old.processes.by_pid self.old.processes.ready sample.pid) }
         ensures counted { OnOk result (CountsMore input.now.options.frames 1 self.old.counts self.new.counts) }
@@ -232,9 +235,10 @@ where
         ensures taken { OnOk result (IsTaken input.now.options.frames
             (told_by input.now.options input.now.files.now (named_in self.old.names sample.entry.tid) (Some sample.entry) (mapped_in self.old.processes.by_pid sample.entry.pid)
             (unread_stack (sample_refusal refusal) (frames_of_chain refusal (read_chain_view sample.entry.chain))) [])
-            self.old.counts self.new.counts (W.contents out.old) (W.contents out.new)) }
+            self.old.counts self.new.counts out.old.bytes out.new.bytes) }
         ensures refused { (samples : ℕ) → AreCounted input.now.options.frames samples self.old.counts
-            → IfErr result (MayEnd input.now.options.frames None 0 (samples + 1)) }
+            → IfErr result (MayEnd (input.now.options.frames && out.new.has_failed) None 0 (samples + 1)) }
+        ensures noted { out.new.has_failed ≡ (out.old.has_failed || is_unwritten result) }
     {
         let frames = frames_of_chain(alloc, refusal, sample.chain)?;
         let stack = chain_stack(frames.as_slice(), refusal_name(refusal));
@@ -249,7 +253,7 @@ where
         input: &Input<'_, '_, '_, M, B>,
         sample: Sample<'_>,
         mask: u64,
-        out: &mut W,
+        out: &mut Output<W>,
     ) -> Result<(), StacksError>
         ensures served { OnOk result (IsServed (M.module_of input.now.maker.now) (λ view. U.is_sound view self.old.cache) self.old.processes.ready self.old.processes.generations
             → IsServed (M.module_of input.now.maker.now) (λ view. U.is_sound view self.new.cache) self.new.processes.ready self.new.processes.generations) }
@@ -258,10 +262,11 @@ where
         ensures mapped { OnOk result ((pid : ℕ) → mapped_in self.new.processes.by_pid pid ≡ mapped_in self.old.processes.by_pid pid) }
         ensures told { OnOk result (IsServed (M.module_of input.now.maker.now) (λ view. U.is_sound view self.old.cache) self.old.processes.ready self.old.processes.generations
             → (told : Told) × IsToldAt (M.module_of input.now.maker.now) U.walker U.is_note U.starts input.now.options input.now.files.now (state_in self.old.names self.old.processes.by_pid) (Ok (sample_view sample.entry, mask)) told
-            × IsTaken input.now.options.frames told self.old.counts self.new.counts (W.contents out.old) (W.contents out.new)) }
+            × IsTaken input.now.options.frames told self.old.counts self.new.counts out.old.bytes out.new.bytes) }
         ensures drawn { self.new.processes.generations ≤ self.old.processes.generations + 2 }
         ensures refused { (samples : ℕ) → AreCounted input.now.options.frames samples self.old.counts
-            → IfErr result (MayEnd input.now.options.frames None (self.old.processes.generations + 2) (samples + 1)) }
+            → IfErr result (MayEnd (input.now.options.frames && out.new.has_failed) None (self.old.processes.generations + 2) (samples + 1)) }
+        ensures noted { out.new.has_failed ≡ (out.old.has_failed || is_unwritten result) }
     {
         self.processes.make_ready(alloc, input.maker, sample.pid)?;
         match sample.user {
@@ -277,7 +282,7 @@ where
         alloc: Global,
         input: &Input<'_, '_, '_, M, B>,
         record: Record<'_>,
-        out: &mut W,
+        out: &mut Output<W>,
     ) -> Result<(), StacksError>
         ensures served { OnOk result (IsServed (M.module_of input.now.maker.now) (λ view. U.is_sound view self.old.cache) self.old.processes.ready self.old.processes.generations
             → IsServed (M.module_of input.now.maker.now) (λ view. U.is_sound view self.new.cache) self.new.processes.ready self.new.processes.generations) }
@@ -286,10 +291,11 @@ where
         ensures mapped { OnOk result ((pid : ℕ) → mapped_in self.new.processes.by_pid pid ≡ mapped_in self.old.processes.by_pid pid) }
         ensures told { OnOk result (IsServed (M.module_of input.now.maker.now) (λ view. U.is_sound view self.old.cache) self.old.processes.ready self.old.processes.generations
             → (told : Told) × IsToldAt (M.module_of input.now.maker.now) U.walker U.is_note U.starts input.now.options input.now.files.now (state_in self.old.names self.old.processes.by_pid) (sample_in (map attribute_view input.now.recording.now.events.attributes.items) (record_view «record».entry)) told
-            × IsTaken input.now.options.frames told self.old.counts self.new.counts (W.contents out.old) (W.contents out.new)) }
+            × IsTaken input.now.options.frames told self.old.counts self.new.counts out.old.bytes out.new.bytes) }
         ensures drawn { self.new.processes.generations ≤ self.old.processes.generations + 2 }
         ensures refused { (samples : ℕ) → AreCounted input.now.options.frames samples self.old.counts
-            → IfErr result (MayEnd input.now.options.frames None (self.old.processes.generations + 2) (samples + 1)) }
+            → IfErr result (MayEnd (input.now.options.frames && out.new.has_failed) None (self.old.processes.generations + 2) (samples + 1)) }
+        ensures noted { out.new.has_failed ≡ (out.old.has_failed || is_unwritten result) }
     {
         match sample_of(&input.recording.events, record) {
             Ok((sample, mask)) => self.take_sample(alloc, input, sample, mask, out)?,
@@ -338,7 +344,7 @@ where
         input: &Input<'_, '_, '_, M, B>,
         record: Record<'_>,
         buffer: &mut Vec<u8>,
-        out: &mut W,
+        out: &mut Output<W>,
     ) -> Result<(), StacksError>
         requires served { IsServed (M.module_of input.now.maker.now) (λ view. U.is_sound view self.old.cache) self.old.processes.ready self.old.processes.generations }
         ensures served { OnOk result (IsServed (M.module_of input.now.maker.now) (λ view. U.is_sound view self.new.cache) self.new.processes.ready self.new.processes.generations) }
@@ -348,7 +354,7 @@ where
         ensures sample { «record».entry.kind ≡ PERF_RECORD_SAMPLE → OnOk result ((told : Told)
             × IsToldWith (M.module_of input.now.maker.now) U.walker U.is_note U.starts input.now.options input.now.files.now (B.gives input.now.samples.now) (map attribute_view input.now.recording.now.events.attributes.items)
             (record_view «record».entry, state_in self.old.names self.old.processes.by_pid) told
-            × IsTaken input.now.options.frames told self.old.counts self.new.counts (W.contents out.old) (W.contents out.new)) }
+            × IsTaken input.now.options.frames told self.old.counts self.new.counts out.old.bytes out.new.bytes) }
         ensures other { «record».entry.kind ≢ PERF_RECORD_SAMPLE → HasSameSamples self.old.counts self.new.counts × (out.new ≡ out.old) }
         ensures lost { OnOk result (self.new.counts.lost ≡ lost_after (record_view «record».entry) self.old.counts.lost) }
         ensures lost_before { (refusal : RecordingError) → refusal_in (record_view «record».entry) ≡ Some refusal → self.new.counts.lost ≡ self.old.counts.lost }
@@ -356,9 +362,10 @@ where
             + drawn_in (change_in input.now.files.now (record_view «record».entry)) (mapped_in self.old.processes.by_pid)) }
         ensures read { OnOk result (refusal_in (record_view «record».entry) ≡ None) }
         ensures refused { (samples : ℕ) → AreCounted input.now.options.frames samples self.old.counts
-            → IfErr result (MayEnd input.now.options.frames (refusal_in (record_view «record».entry))
+            → IfErr result (MayEnd (input.now.options.frames && out.new.has_failed) (refusal_in (record_view «record».entry))
             (self.old.processes.generations + drawn_in (change_in input.now.files.now (record_view «record».entry)) (mapped_in self.old.processes.by_pid))
             (samples + samples_in_kind «record».entry.kind)) }
+        ensures noted { out.new.has_failed ≡ (out.old.has_failed || is_unwritten result) }
     {
         if record.kind == SAMPLE {
             let body = input.samples.body(record, buffer)?;
@@ -382,7 +389,7 @@ where
         &mut self,
         alloc: Global,
         input: &Input<'_, '_, '_, M, B>,
-        out: &mut W,
+        out: &mut Output<W>,
     ) -> Result<(), StacksError>
         requires served { IsServed (M.module_of input.now.maker.now) (λ view. U.is_sound view self.old.cache) self.old.processes.ready self.old.processes.generations }
         requires none { AreCounted input.now.options.frames 0 self.old.counts }
@@ -393,9 +400,9 @@ where
         ensures told { (state : State) → Agrees self.old.names self.old.processes.by_pid state → OnOk result ((told : List Told)
             × Each (IsToldWith (M.module_of input.now.maker.now) U.walker U.is_note U.starts input.now.options input.now.files.now (B.gives input.now.samples.now) (map attribute_view input.now.recording.now.events.attributes.items))
             (samples_from input.now.files.now state (records_in input.now.recording.now.records.items)) told
-            × AreTaken input.now.options.frames told self.old.counts self.new.counts (W.contents out.old) (W.contents out.new)) }
+            × AreTaken input.now.options.frames told self.old.counts self.new.counts out.old.bytes out.new.bytes) }
         ensures read { OnOk result (first_refusal (records_in input.now.recording.now.records.items) ≡ None) }
-        ensures refused { (state : State) → Agrees self.old.names self.old.processes.by_pid state → IfErr result (MayEnd input.now.options.frames
+        ensures refused { (state : State) → Agrees self.old.names self.old.processes.by_pid state → IfErr result (MayEnd (input.now.options.frames && out.new.has_failed)
             (first_refusal (records_in input.now.recording.now.records.items))
             (self.old.processes.generations + drawn_over input.now.files.now (records_in input.now.recording.now.records.items) state)
             (count_by is_sample input.now.recording.now.records.items)) }
@@ -406,7 +413,8 @@ where
             → (refusal : RecordingError) → result ≡ Err (RecordingRefused refusal) → (told : List Told)
             × Each (IsToldWith (M.module_of input.now.maker.now) U.walker U.is_note U.starts input.now.options input.now.files.now (B.gives input.now.samples.now) (map attribute_view input.now.recording.now.events.attributes.items))
             (samples_from input.now.files.now state (before_refusal (records_in input.now.recording.now.records.items))) told
-            × AreTaken input.now.options.frames told self.old.counts self.new.counts (W.contents out.old) (W.contents out.new) }
+            × AreTaken input.now.options.frames told self.old.counts self.new.counts out.old.bytes out.new.bytes }
+        ensures noted { out.new.has_failed ≡ (out.old.has_failed || is_unwritten result) }
     {
         let mut buffer = Vec::new(alloc);
         for timed in &input.recording.records {
@@ -423,15 +431,16 @@ fn take_stack<R: Copy, W: Write>(
     at: SampleAt<'_, '_>,
     stack: EndedStack<'_, R>,
     notes: &[Note],
-    out: &mut W,
+    out: &mut Output<W>,
 ) -> Result<(), StacksError>
     requires { IsInOrder 0 at.mappings.now }
     ensures counted { OnOk result (CountsMore at.entry.options.frames 1 counts.old counts.new) }
     ensures taken { OnOk result (IsTaken at.entry.options.frames (told_of at.entry (stack_of stack.entry) notes.now)
-        counts.old counts.new (W.contents out.old) (W.contents out.new)) }
+        counts.old counts.new out.old.bytes out.new.bytes) }
     ensures refused { (samples : ℕ) → AreCounted at.entry.options.frames samples counts.old
-        → IfErr result (MayEnd at.entry.options.frames None 0 (samples + 1)) }
+        → IfErr result (MayEnd (at.entry.options.frames && out.new.has_failed) None 0 (samples + 1)) }
     ensures ends { OnOk result (CountsOneMore counts.old.ends counts.new.ends (name_of_end (end_of stack.entry.end))) }
+    ensures noted { out.new.has_failed ≡ (out.old.has_failed || is_unwritten result) }
 {
     let frames = stack.frames;
     let is_sure = sure_part(frames).len() == frames.len();

@@ -1,22 +1,23 @@
 //! The stacks of core files.
-use crate::minidumps::report_dump;
-use crate::output::status_of_dump;
+use crate::output::{print_end, status_of_dump};
 use crate::request::{Form, Request, misuse_of, refuse_file};
+use crate::sources::Sources;
 use framehop_cli::{Result, StandardOutput};
 use framehop_coredump::core_file::Machine;
 use framehop_coredump::registers::{aarch64_registers, code_ptr_auth_mask, x86_64_registers};
 use framehop_disk::core_parts::{CoreParts, ReadMemory};
 use framehop_disk::input::Kind;
-use framehop_disk::messages::Messages;
 use framehop_dump_stacks::core_dump::{read_core_dump, read_core_dump_over};
 use framehop_dump_stacks::dump::{Dump, Registers};
 use framehop_dump_stacks::error::DumpStacksError;
-use framehop_dump_stacks::modules::read_files;
-use framehop_dump_stacks::program::{Written, core_stacks};
+use framehop_dump_stacks::json_report::Json;
+use framehop_dump_stacks::program::write_core_stacks;
+use framehop_dump_stacks::text::Text;
 use framehop_memory::left_out::LeftOut;
 use framehop_memory::memory::ProcessMemory;
+use framehop_output::Output;
 use framehop_perf_stacks::run::Options;
-use std::io::Write;
+use std::io::{BufWriter, Write};
 
 /// What came of a round over the parts that were read of a core file.
 #[derive(Drop)]
@@ -28,9 +29,6 @@ enum Round {
     /// The file is refused. Nothing is printed.
     Refused,
 }
-
-/// What is written of a core file, or why nothing is; `None` where more memory was asked for.
-type Stacks = std::result::Result<Option<Written>, DumpStacksError>;
 
 /// Prints the stacks of the threads of a core file, of which the headers and the notes are read and the memory that is asked
 /// for, and of the files that were mapped those that are asked for. Where more is asked for than was read, nothing is printed, and all is done
@@ -100,9 +98,9 @@ fn print_dump(
     if !asked.is_empty() {
         return Ok(Round::Asked(asked));
     }
-    match stacks(request, dump, left_out) {
-        Ok(None) => Ok(Round::Asked(left_out.asked(alloc)?)),
-        stacks => Ok(Round::Printed(print_stacks(request.rt, path, &stacks)?)),
+    match print_stacks(request, path, dump, left_out)? {
+        Some(status) => Ok(Round::Printed(status)),
+        None => Ok(Round::Asked(left_out.asked(alloc)?)),
     }
 }
 
@@ -136,56 +134,51 @@ pub fn print_core(request: Request<'_, '_>, path: &str, bytes: &[u8]) -> Result<
     match read_core_dump(alloc, bytes) {
         Ok(dump) => {
             let left_out = LeftOut::new(alloc, &[])?;
-            let stacks = stacks(request, &dump, &left_out);
-            print_stacks(rt, path, &stacks)
+            let status = print_stacks(request, path, &dump, &left_out)?;
+            Ok(status.unwrap_or(0))
         }
         Err(error) => status_of_dump(rt, path, Err(error.into())),
     }
 }
 
-/// Returns what is written of a core file that was read. JSON tells of all its files.
-fn stacks(request: Request<'_, '_>, dump: &Dump<'_>, left_out: &LeftOut) -> Stacks {
-    let alloc = request.rt.alloc();
+/// Prints what is asked for of a core file that was read, and what was missing. Returns the status, or `None` where memory that
+/// was left out was asked for: nothing is printed then.
+fn print_stacks(
+    request: Request<'_, '_>,
+    path: &str,
+    dump: &Dump<'_>,
+    left_out: &LeftOut,
+) -> Result<Option<u8>> {
+    let (rt, alloc) = (request.rt, request.rt.alloc());
+    let mut out = Output::new(BufWriter::new(alloc, StandardOutput { rt })?);
+    let mut said = Output::new(Vec::new(alloc));
+    let written = match write_stacks(request, dump, left_out, &mut out, &mut said) {
+        Ok(false) => return Ok(None),
+        Ok(true) => Ok(()),
+        Err(error) => Err(error),
+    };
+    let said = said.into_inner();
+    Ok(Some(print_end(rt, path, &mut out, said.as_slice(), written)?))
+}
+
+/// Writes what is asked for of a core file that was read, and then what was missing. Returns whether it is written.
+fn write_stacks<W: Write, E: Write>(
+    request: Request<'_, '_>,
+    dump: &Dump<'_>,
+    left_out: &LeftOut,
+    out: &mut Output<W>,
+    said: &mut Output<E>,
+) -> Result<bool, DumpStacksError> {
+    let (alloc, sources) = (request.rt.alloc(), request.sources);
     let Options { limit, explain, .. } = request.options;
     match request.form {
-        Form::Json => reported(request, dump, left_out),
-        _ => core_stacks(alloc, dump, left_out, request.sources, limit, explain),
-    }
-}
-
-/// Returns the JSON of a core file that was read, and what was missing.
-fn reported(request: Request<'_, '_>, dump: &Dump<'_>, left_out: &LeftOut) -> Stacks {
-    let (alloc, sources) = (request.rt.alloc(), request.sources);
-    let mut written = Written {
-        out: Vec::new(alloc),
-        said: Vec::new(alloc),
-    };
-    let files = read_files(alloc, dump, sources)?;
-    let limit = request.options.limit;
-    let (out, said) = (&mut written.out, &mut written.said);
-    report_dump(alloc, dump, &files, sources, limit, out, said)?;
-    if left_out.asked(alloc)?.is_empty() {
-        Ok(Some(written))
-    } else {
-        Ok(None)
-    }
-}
-
-/// Prints what is written of a core file and what is said of it, or why it is refused. Returns the status.
-fn print_stacks(rt: &HostRuntime, path: &str, stacks: &Stacks) -> Result<u8> {
-    match stacks {
-        Ok(Some(written)) => print_written(rt, path, written),
-        Ok(None) => Ok(0),
-        Err(error) => status_of_dump(rt, path, Err(*error)),
-    }
-}
-
-/// Prints what is written of a core file and what is said of it. Returns the status.
-fn print_written(rt: &HostRuntime, path: &str, written: &Written) -> Result<u8> {
-    let printed = StandardOutput { rt }.write_all(written.out.as_slice());
-    Messages { rt }.write_all(written.said.as_slice())?;
-    match printed {
-        Ok(()) => Ok(0),
-        Err(error) => status_of_dump(rt, path, Err(error.into())),
+        Form::Json => {
+            let json: Json<'_, Sources<'_, '_>> = Json { paths: sources };
+            write_core_stacks(alloc, dump, left_out, sources, limit, &json, out, said)
+        }
+        _ => {
+            let text = Text { explain };
+            write_core_stacks(alloc, dump, left_out, sources, limit, &text, out, said)
+        }
     }
 }

@@ -2,11 +2,13 @@
 use crate::request::{Form, Request, refuse, refuse_file};
 use crate::speedscope::speedscope_file;
 use framehop_cli::{Result, StandardOutput};
+use framehop_disk::messages::Messages;
 use framehop_dump_stacks::error::DumpStacksError;
 use framehop_flame_graph::error::FlameGraphError;
 use framehop_flame_graph::svg::{change_graph, flame_graph};
 use framehop_folded::changes::Changes;
 use framehop_folded::folded::Folded;
+use framehop_output::Output;
 use framehop_perf_stacks::error::StacksError;
 use std::io;
 use std::io::{BufWriter, Write};
@@ -57,7 +59,7 @@ fn write_text(rt: &HostRuntime, text: &str) -> Result<(), StacksError> {
 
 /// Writes the lines of folded stacks.
 fn write_lines(rt: &HostRuntime, folded: &Folded) -> Result<(), StacksError> {
-    let mut out = BufWriter::new(rt.alloc(), StandardOutput { rt })?;
+    let mut out = Output::new(BufWriter::new(rt.alloc(), StandardOutput { rt })?);
     folded.write(&mut out)?;
     io::Write::flush(&mut out)?;
     Ok(())
@@ -65,7 +67,7 @@ fn write_lines(rt: &HostRuntime, folded: &Folded) -> Result<(), StacksError> {
 
 /// Writes the lines of folded stacks beside one another.
 fn write_changes(rt: &HostRuntime, changes: &Changes) -> Result<(), StacksError> {
-    let mut out = BufWriter::new(rt.alloc(), StandardOutput { rt })?;
+    let mut out = Output::new(BufWriter::new(rt.alloc(), StandardOutput { rt })?);
     changes.write(&mut out)?;
     io::Write::flush(&mut out)?;
     Ok(())
@@ -77,6 +79,22 @@ fn status_of(rt: &HostRuntime, written: Result<(), StacksError>) -> Result<u8> {
         Ok(()) => Ok(0),
         Err(StacksError::OutOfMemory) => refuse(rt, StacksError::OutOfMemory, 2),
         Err(error) => refuse(rt, error, 1),
+    }
+}
+
+/// Prints what is left of a report of a core file or a minidump, and then what was missing. Returns the status.
+pub fn print_end<W: Write>(
+    rt: &HostRuntime,
+    path: &str,
+    out: &mut Output<W>,
+    said: &[u8],
+    written: Result<(), DumpStacksError>,
+) -> Result<u8> {
+    let flushed = io::Write::flush(out);
+    Messages { rt }.write_all(said)?;
+    match (written, flushed) {
+        (Ok(()), Err(error)) => status_of_dump(rt, path, Err(error.into())),
+        (written, _) => status_of_dump(rt, path, written),
     }
 }
 

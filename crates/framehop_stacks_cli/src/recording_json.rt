@@ -1,6 +1,7 @@
 //! The stacks of recordings as JSON.
 use crate::sources::Sources;
 use framehop_folded::folded::Folded;
+use framehop_output::Output;
 use framehop_perf_stacks::choice::{Choice, choose};
 use framehop_perf_stacks::error::StacksError;
 use framehop_perf_stacks::json_report::write_json;
@@ -18,8 +19,8 @@ pub fn write_recording_json<B: SampleSource, W: Write, E: Write>(
     sources: &Sources<'_, '_>,
     samples: &B,
     options: Options<'_>,
-    out: &mut W,
-    err: &mut E,
+    out: &mut Output<W>,
+    err: &mut Output<E>,
 ) -> Result<Unwound, StacksError> {
     let files = read_files(alloc, recording, sources)?;
     let paths = sources.disk.paths_of(&files)?;
@@ -46,8 +47,8 @@ pub fn write_json_of<W: Write, E: Write>(
     sources: &Sources<'_, '_>,
     choice: &Choice<'_>,
     options: Options<'_>,
-    out: &mut W,
-    err: &mut E,
+    out: &mut Output<W>,
+    err: &mut Output<E>,
 ) -> Result<Unwound, StacksError> {
     let recording = choose(alloc, read_recording(alloc, bytes)?, choice)?;
     write_recording_json(alloc, &recording, sources, &InMemory, options, out, err)

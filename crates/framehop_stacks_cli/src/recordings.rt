@@ -9,6 +9,7 @@ use framehop_cli::{Result, StandardOutput};
 use framehop_disk::input::{Kind, announce};
 use framehop_disk::messages::Messages;
 use framehop_folded::folded::Folded;
+use framehop_output::Output;
 use framehop_perf_stacks::choice::{Choice, choose};
 use framehop_perf_stacks::error::StacksError;
 use framehop_perf_stacks::kept::KeptRecords;
@@ -136,8 +137,8 @@ fn write_read(
         ..
     } = request;
     let alloc = rt.alloc();
-    let mut out = BufWriter::new(alloc, StandardOutput { rt })?;
-    let mut err = Messages { rt };
+    let mut out = Output::new(BufWriter::new(alloc, StandardOutput { rt })?);
+    let mut err = Output::new(Messages { rt });
     let stacks = if options.json {
         write_recording_json(
             alloc, recording, sources, bodies, options, &mut out, &mut err,
@@ -179,8 +180,8 @@ fn write_bytes(request: Request<'_, '_>, bytes: &[u8], choice: &Choice<'_>) -> R
         ..
     } = request;
     let alloc = rt.alloc();
-    let mut out = BufWriter::new(alloc, StandardOutput { rt })?;
-    let mut err = Messages { rt };
+    let mut out = Output::new(BufWriter::new(alloc, StandardOutput { rt })?);
+    let mut err = Output::new(Messages { rt });
     let stacks = if options.json {
         write_json_of(alloc, bytes, sources, choice, options, &mut out, &mut err)
     } else {

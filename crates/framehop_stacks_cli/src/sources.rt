@@ -1,9 +1,11 @@
 //! The files and the maps of JIT compilers by which stacks get their names.
 use framehop_disk::disk::{Disk, read_perf_map};
+use framehop_dump_stacks::json_report::PathSource;
+use framehop_frames::json_files::FilePaths;
 use framehop_perf_stacks::perf_map::MapSource;
-use framehop_symbols::files::FileSource;
+use framehop_symbols::files::{FileSource, Files};
 use framehop_symbols::read_refusal::ReadRefusal;
-use std::alloc::AllocError;
+use std::alloc::{AllocError, Global};
 
 /// The files of a disk, and the maps that JIT compilers write.
 #[derive(Drop)]
@@ -52,5 +54,13 @@ impl MapSource for Sources<'_, '_> {
         };
         let path = format!(in self.disk.rt.alloc(); "{folder}/perf-{pid}.map")?;
         read_perf_map(self.disk.rt, path.as_str())
+    }
+}
+
+impl PathSource for Sources<'_, '_> {
+    ghost gives_paths = { λ sources files paths. Unit {0} };
+
+    fn paths_of(&self, _alloc: Global, files: &Files<'_>) -> Result<Vec<FilePaths>, AllocError> {
+        self.disk.paths_of(files)
     }
 }

@@ -3,6 +3,7 @@ use crate::flame_graph::folded::folded_of;
 use crate::flame_graph::picture::{PLAIN, has_line};
 use framehop_flame_graph::svg::change_graph;
 use framehop_folded::changes::Changes;
+use framehop_output::Output;
 use std::alloc::Global;
 use std::test::Fail;
 
@@ -20,10 +21,11 @@ fn between(alloc: Global, old: &[u8], new: &[u8]) -> Result<Changes, Fail> {
 fn compares_stacks(rt: HostRuntime) -> Result<(), Fail> {
     let alloc = rt.alloc();
     let changes = between(alloc, OLD, NEW)?;
-    let mut out = Vec::new(alloc);
+    let mut out = Output::new(Vec::new(alloc));
     changes.write(&mut out)?;
+    assert!(rt; !out.has_failed());
     assert_eq!(rt;
-        out.as_slice(),
+        out.into_inner().as_slice(),
         b"main;a 3 5\nmain;b 0 1\nmain;old 2 0\n".as_slice()
     );
     assert_eq!(rt; changes.old().count_of(b"main;b"), 0);

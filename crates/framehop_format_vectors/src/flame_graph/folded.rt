@@ -2,6 +2,7 @@
 use framehop_folded::error::{FoldedError, TextError};
 use framehop_folded::folded::Folded;
 use framehop_folded::text::{is_text, line_number, read_folded};
+use framehop_output::Output;
 use std::alloc::Global;
 use std::test::Fail;
 
@@ -16,9 +17,9 @@ pub(crate) fn folded_of(alloc: Global, text: &[u8]) -> Result<Folded, Fail> {
 
 /// Returns the text of folded stacks.
 fn text_of(alloc: Global, folded: &Folded) -> Result<Vec<u8>, Fail> {
-    let mut out = Vec::new(alloc);
+    let mut out = Output::new(Vec::new(alloc));
     folded.write(&mut out)?;
-    Ok(out)
+    Ok(out.into_inner())
 }
 
 /// Returns why a text is refused, if it is.

@@ -1,4 +1,4 @@
-use Rattle.std.proofs.Common.{◌≡◌, ◌⊎◌, List, inl, inr, ⊎_elim, Err, rules, subst}
+use Rattle.std.proofs.Common.{◌≡◌, ◌⊎◌, ◌||◌, List, inl, inr, ⊎_elim, Err, rules, subst}
 use Rattle.framehop_minidump.specs.declared.error.MinidumpError.{MinidumpError}
 use Rattle.framehop_dump_stacks.specs.Dump.{DumpView, dump_view}
 use Rattle.framehop_dump_stacks.specs.Ended.{MayEndWithModules}
@@ -53,9 +53,10 @@ pub returns-in_err-write_minidump-clause-read : goal.returns-in_err-write_minidu
 returns-in_err-write_minidump-clause-read g c = λ minidump is.
     let e = c.in_err-write_minidump.field-0.0 in
     let source = g.S.FileSource.source c.args.source.now in
+    let failed = c.write_minidump.new.out.has_failed || c.write_minidump.new.err.has_failed in
     let parts = parts_view c.in_ok-parts.parts in
     let dump = dump_view c.in_ok-dump.dump in
     let same : (dump, parts.modules) ≡ minidump = ok-same _ _ _ (minidump-is c.args.file.now parts dump c.in_ok-parts.ensures c.in_ok-dump.ensures) is in
     let may = rw c.as_slice-modules.ensures.value at c.in_err-write_minidump.ensures.refused in
-    failed_as c.from_residual-in_err-write_minidump.result e (MayEndWithModules source minidump) c.from_residual-in_err-write_minidump.ensures.1
-    (subst (λ (m : DumpView × List LoadedView). MayEndWithModules source m e) same may)
+    failed_as c.from_residual-in_err-write_minidump.result e (MayEndWithModules failed source minidump) c.from_residual-in_err-write_minidump.ensures.1
+    (subst (λ (m : DumpView × List LoadedView). MayEndWithModules failed source m e) same may)

@@ -1,14 +1,16 @@
-use Rattle.std.proofs.Common.{Err, map, true, refl, ap, sym, ◌∙◌, true≢false, arith}
+use Rattle.std.proofs.Common.{Err, map, refl, ap, sym, ◌∙◌, true≢false, arith}
 use Rattle.std.specs.Result.{is_err}
 use Rattle.std.proofs.lemmas.Result.{IfOk-from_err}
-use Rattle.framehop_perf_stacks.proofs.EndedLemmas.{first_ok, first_ok_refused, ends_more, either_error, refusal_of_second, cannot_write, same_error, if_err_weaker, if_err_at, if_err_none}
+use Rattle.framehop_perf_stacks.proofs.EndedLemmas.{first_ok, first_ok_refused, ends_more, either_error, refusal_of_second, same_error, if_err_weaker, if_err_at, if_err_none}
 use Rattle.framehop_perf_stacks.proofs.BodiesLemmas.{completed}
+use Rattle.framehop_perf_stacks.proofs.WrittenLemmas.{second-ends, either-failed}
 use Rattle.framehop_perf_stacks.proofs.TakenLemmas.{made, summed, both_ok, at_ok}
 use Rattle.framehop_recording.specs.Attributes.{attribute_view}
 use Rattle.framehop_perf_stacks.specs.Ended.{before_refusal}
 use Rattle.framehop_perf_stacks.specs.Recording.{records_in}
 use Rattle.framehop_perf_stacks.specs.Printed.{MayEndAt}
 use Rattle.framehop_perf_stacks.specs.Samples.{beginning, lost_over, IsToldOf}
+use Rattle.framehop_perf_stacks.specs.Written.{has_one_failed}
 use Rattle.framehop_perf_stacks.specs.declared.error.StacksError.TheVariants.{Recording as Refused}
 use Rattle.framehop_perf_stacks.proofs.program.unwind_all.Goals as goal
 use Rattle.framehop_perf_stacks.proofs.program.unwind_all.Goals.{in-Ok, in-Err}
@@ -38,8 +40,8 @@ returns-clause-made g c = elim c.match-and.branch [
             told.0,
             all.2,
             made c.args.options.frames told.0 c.in_ok-run.run'.counts.stacks
-                c.take_records-taken.new.self.counts.stacks (g.W.Write.contents c.args.out.now)
-                (g.W.Write.contents c.take_records-taken.new.out) told.2.1 c.in_ok-run.ensures.uncounted,
+                c.take_records-taken.new.self.counts.stacks c.args.out.now.bytes
+                c.take_records-taken.new.out.bytes told.2.1 c.in_ok-run.ensures.uncounted,
             (
               c.take_records-taken.new.self.counts,
               summed told.0 _ c.in_ok-run.run'.counts c.take_records-taken.new.self.counts told.2.0
@@ -60,12 +62,14 @@ pub returns-clause-ended : goal.returns-clause-ended
 returns-clause-ended g c = elim c.match-and.branch [
   | in-Ok w ↦ if_err_none c.match-and.ended _ _ w.ended-is
   | in-Err w ↦
-      let EndsHere = MayEndAt c.args.recording.now c.args.files.now in
+      let out = c.take_records-taken.new.out in
+      let err = c.write_counts-counted.new.err in
+      let EndsHere = MayEndAt (has_one_failed out err) c.args.recording.now c.args.files.now in
       if_err_at c.match-and.ended _ EndsHere w.ended-is
       (either_error c.write_counts-counted.result c.take_records-taken.result _ EndsHere (sym c.and.ensures ∙ w.in-Err.is)
-      (if_err_weaker c.write_counts-counted.result _ EndsHere (λ error is. cannot_write _ _ _ error is) c.write_counts-counted.ensures.refused)
+      (second-ends c.write_counts-counted.result _ _ _ out c.args.err.now err c.write_counts-counted.ensures.refused c.write_counts-counted.ensures.noted)
       (if_err_weaker c.take_records-taken.result _ EndsHere
-      (λ error ends. ends_more c.args.options.frames true _ _ _ _ _ _ error (λ writes. refl) (λ refusal is. is) (omega (arith, c.in_ok-run.ensures.undrawn)) (omega arith) ends)
+      (λ error ends. ends_more _ _ _ _ _ _ _ _ error (either-failed c.args.options.frames out.has_failed err.has_failed) (λ refusal is. is) (omega (arith, c.in_ok-run.ensures.undrawn)) (omega arith) ends)
       (c.take_records-taken.ensures.refused beginning c.in_ok-run.ensures.begun)))
 ]
 
@@ -86,8 +90,8 @@ returns-clause-before g c = elim c.match-and.branch [
           told.0,
           all.2,
           made c.args.options.frames told.0 c.in_ok-run.run'.counts.stacks
-              c.take_records-taken.new.self.counts.stacks (g.W.Write.contents c.args.out.now)
-              (g.W.Write.contents c.take_records-taken.new.out) told.2.1 c.in_ok-run.ensures.uncounted,
+              c.take_records-taken.new.self.counts.stacks c.args.out.now.bytes
+              c.take_records-taken.new.out.bytes told.2.1 c.in_ok-run.ensures.uncounted,
           (
             c.take_records-taken.new.self.counts,
             summed told.0 _ c.in_ok-run.run'.counts c.take_records-taken.new.self.counts told.2.0

@@ -3,5 +3,5 @@ use Rattle.framehop_perf_stacks.proofs.program.write_recording_stacks.Goals as g
 
 pub returns-clause-made : goal.returns-clause-made
 returns-clause-made g c = IfOk-weaker c.unwind_recording.result _ _
-    (λ unwound made. (c.in_ok-files.files, c.in_ok-files.ensures.read, (g.E.Write.contents c.write_problems.new.err, c.in_ok-write_problems.ensures.written, made)))
+    (λ unwound made. (c.in_ok-files.files, c.in_ok-files.ensures.read, (c.write_problems.new.err.bytes, c.in_ok-write_problems.ensures.written, made)))
     c.unwind_recording.ensures.made

@@ -16,8 +16,8 @@ returns-clause-made g c = IfOk-weaker c.write_recording_stacks.result _ _
           (
             made.2.0,
             made.2.1,
-            made-own c.in_ok-recording.recording made.0 c.args.options unwound.folded (g.W.Write.contents c.args.out.now)
-                (g.W.Write.contents c.write_recording_stacks.new.out) made.2.0 (g.E.Write.contents c.write_recording_stacks.new.err) unwound.ended made.2.2,
+            made-own _ c.in_ok-recording.recording made.0 c.args.options unwound.folded c.args.out.now.bytes
+                c.write_recording_stacks.new.out.bytes made.2.0 c.write_recording_stacks.new.err.bytes unwound.ended made.2.2,
           ),
         ),
       ),

@@ -16,9 +16,9 @@ returns-in_err-add_stack-clause-refused g c = λ samples counted.
     let frames = c.args.at.options.frames in
     let total : total_of c.add_sample.new.self.stacks ≡ samples =
     ap total_of c.in_ok-add_sample.ensures.stacks ∙ counted.stacks ∙ ap (λ b. cond b 0 samples) c.if-at.false in
-    failed_as c.from_residual-in_err-add_stack.result _ (MayEnd frames None 0 (samples + 1)) c.from_residual-in_err-add_stack.ensures.1
-    (ends_more frames frames None None 0 0 (total_of c.add_sample.new.self.stacks + 1) (samples + 1) c.in_err-add_stack.field-0.0
-    (λ writes. writes) (λ refusal is. is) (omega arith) (omega (arith, total)) (c.in_err-add_stack.ensures.within frames))
+    failed_as c.from_residual-in_err-add_stack.result _ (MayEnd _ None 0 (samples + 1)) c.from_residual-in_err-add_stack.ensures.1
+    (ends_more _ _ None None 0 0 (total_of c.add_sample.new.self.stacks + 1) (samples + 1) c.in_err-add_stack.field-0.0
+    (λ writes. writes) (λ refusal is. is) (omega arith) (omega (arith, total)) (c.in_err-add_stack.ensures.within _))
 
 -- a line that is counted
 counted : (frames : Bool) (told : Told) (old new : Folded) (bytes : Option (List ℕ)) → frames ≡ false
@@ -59,7 +59,7 @@ returns-in_ok-add_stack-clause-taken g c =
         ends = subst (λ ends. CountsOneMore c.args.counts.now.ends ends told.end) (sym kept.ends) more.ends;
         lost = kept.lost ∙ more.lost;
       },
-      counted c.args.at.options.frames told c.args.counts.now.stacks c.add_stack.new.self.stacks (g.W.Write.contents c.args.out.now) c.if-at.false
+      counted c.args.at.options.frames told c.args.counts.now.stacks c.add_stack.new.self.stacks c.args.out.now.bytes c.if-at.false
           (subst (λ old. CountsOneMore old c.add_stack.new.self.stacks told.text) c.in_ok-add_sample.ensures.stacks
           (subst (CountsOneMore c.add_sample.new.self.stacks c.add_stack.new.self.stacks) (c.in_ok-line.ensures c.args.notes.now) kept.more)),
     )

@@ -3,6 +3,7 @@ use Rattle.std.specs.Io.KnownBytes.{Appends}
 use Rattle.std.specs.Map.Iter.{deref_pair}
 use Rattle.std.proofs.lemmas.Map.Iter.{rest_more}
 use Rattle.std.proofs.KnownBytes.{Appends-trans}
+use Rattle.std.proofs.Math.Bool.{or-false}
 use Rattle.framehop_folded.specs.Changes.{change_lines, change_line}
 use Rattle.framehop_folded.specs.Folded.{count_in}
 use Rattle.framehop_folded.proofs.changes.Changes.write.Goals as goal
@@ -14,12 +15,13 @@ loop-stack-preserved g c =
     let line = change_line stack (count_in changes.old stack) c.in-Some.count.now in
     let rest = rest_more deref_pair c.loop-stack.stack-iterator c.next.new.self c.next.result (c.in-Some.stack, c.in-Some.count) c.in-Some.is c.next.ensures.steps in
     let old : c.count_of-old.result ≡ count_in changes.old stack = c.count_of-old.ensures ∙ ap (count_in changes.old) c.as_slice.ensures.value in
-    let written : Appends (g.W.Write.contents c.loop-stack.out) (g.W.Write.contents c.write_line.new.out) line =
-    let P : List ℕ → ℕ → Type 0 = λ bytes count. Appends (g.W.Write.contents c.loop-stack.out) (g.W.Write.contents c.write_line.new.out)
+    let written : Appends c.loop-stack.out.bytes c.write_line.new.out.bytes line =
+    let P : List ℕ → ℕ → Type 0 = λ bytes count. Appends c.loop-stack.out.bytes c.write_line.new.out.bytes
     (change_line bytes count c.in-Some.count.now) in
-    subst (λ count. P stack count) old (subst (λ bytes. P bytes c.count_of-old.result) c.as_slice-in-loop-stack.ensures.value c.in_ok-write_line.ensures) in (
+    subst (λ count. P stack count) old (subst (λ bytes. P bytes c.count_of-old.result) c.as_slice-in-loop-stack.ensures.value c.in_ok-write_line.ensures.written) in (
       c.loop-stack.invariant.0 ++ line,
       append_assoc c.loop-stack.invariant.0 line (change_lines changes.old c.next.new.self)
           ∙ ap (λ left. c.loop-stack.invariant.0 ++ change_lines changes.old left) (sym rest) ∙ c.loop-stack.invariant.1,
-      Appends-trans (g.W.Write.contents c.args.out.now) (g.W.Write.contents c.loop-stack.out) (g.W.Write.contents c.write_line.new.out) c.loop-stack.invariant.0 line c.loop-stack.invariant.2 written,
+      Appends-trans c.args.out.now.bytes c.loop-stack.out.bytes c.write_line.new.out.bytes c.loop-stack.invariant.0 line c.loop-stack.invariant.2 written,
+      c.in_ok-write_line.ensures.noted ∙ or-false c.loop-stack.out.has_failed ∙ c.loop-stack.invariant.3,
     )

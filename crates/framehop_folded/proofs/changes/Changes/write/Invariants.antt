@@ -5,4 +5,5 @@ use Rattle.framehop_folded.proofs.changes.Changes.write.Given as goal
 
 abbrev pub invariant-loop-stack : goal.invariant-loop-stack
 invariant-loop-stack g l = (written : List ℕ) × (written ++ change_lines l.self.old l.stack-iterator ≡ change_lines l.self.old l.self.new.counts.entries)
-    × Appends (g.W.Write.contents l.initial.out) (g.W.Write.contents l.out) written
+    × Appends l.initial.out.bytes l.out.bytes written
+    × (l.out.has_failed ≡ l.initial.out.has_failed)

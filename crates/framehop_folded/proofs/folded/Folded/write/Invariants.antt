@@ -5,4 +5,5 @@ use Rattle.framehop_folded.proofs.folded.Folded.write.Given as goal
 
 abbrev pub invariant-loop-stack : goal.invariant-loop-stack
 invariant-loop-stack g l = (written : List ℕ) × (written ++ folded_lines l.stack-iterator ≡ folded_lines l.self.counts.entries)
-    × Appends (g.W.Write.contents l.initial.out) (g.W.Write.contents l.out) written
+    × Appends l.initial.out.bytes l.out.bytes written
+    × (l.out.has_failed ≡ l.initial.out.has_failed)

@@ -62,7 +62,7 @@ returns-in_err-take_sample_record-clause-refused g c = λ samples counted.
     let two = drawn-none r maps names forks c.args.input.now.files.now (mapped_in c.args.self.now.processes.by_pid) in
     let one : samples_in_kind c.args.record.kind ≡ 1 = rw kind refl in
     failed_as c.from_residual-in_err-take_sample_record.result _ _ c.from_residual-in_err-take_sample_record.ensures.1
-    (ends_more c.args.input.now.options.frames c.args.input.now.options.frames None (refusal_in r) (c.args.self.now.processes.generations + 2)
+    (ends_more _ _ None (refusal_in r) (c.args.self.now.processes.generations + 2)
     (c.args.self.now.processes.generations + drawn_in (change_in c.args.input.now.files.now r) (mapped_in c.args.self.now.processes.by_pid))
     (samples + 1) (samples + samples_in_kind c.args.record.kind) c.in_err-take_sample_record.field-0.0
     (λ writes. writes) (λ refusal none. absurd (true≢false (sym (ap is_some none)))) (omega (arith, two)) (omega (arith, one))
@@ -97,7 +97,7 @@ returns-in_err-lose-clause-refused g c = λ samples counted.
     let r = record_view c.args.record in
     let kind : c.args.record.kind ≡ 2 = search rules in
     failed_as c.from_residual-in_err-lose.result _ _ c.from_residual-in_err-lose.ensures.1
-    (ends_more false c.args.input.now.options.frames (result_err (lost_at r)) (refusal_in r) 0 _ 0 _ c.in_err-lose.field-0.0
+    (ends_more false _ (result_err (lost_at r)) (refusal_in r) 0 _ 0 _ c.in_err-lose.field-0.0
     (λ writes. absurd (true≢false (sym writes))) (λ refusal is. lost-refusal r kind ∙ is) (omega arith) (omega arith) c.in_err-lose.ensures.refused)
 
 pub returns-then-record-eq-LOST-clause-read : goal.returns-then-record-eq-LOST-clause-read
@@ -110,7 +110,7 @@ returns-in_err-note-clause-refused g c = λ samples counted.
     let r = record_view c.args.record in
     let other : (r.kind == PERF_RECORD_LOST) ≡ false = search rules in
     failed_as c.from_residual-in_err-note.result _ _ c.from_residual-in_err-note.ensures.1
-    (ends_more false c.args.input.now.options.frames (naming_refusal r) (refusal_in r) 0 _ 0 _ c.in_err-note.field-0.0
+    (ends_more false _ (naming_refusal r) (refusal_in r) 0 _ 0 _ c.in_err-note.field-0.0
     (λ writes. absurd (true≢false (sym writes))) (λ refusal is. naming-refused r refusal other is) (omega arith) (omega arith) c.in_err-note.ensures.refused)
 
 pub returns-in_err-change-clause-refused : goal.returns-in_err-change-clause-refused
@@ -118,16 +118,16 @@ returns-in_err-change-clause-refused g c = λ samples counted.
     let r = record_view c.args.record in
     let other : (r.kind == PERF_RECORD_LOST) ≡ false = search rules in
     failed_as c.from_residual-in_err-change.result _ _ c.from_residual-in_err-change.ensures.1
-    (refused_by c.args.input.now.options.frames (refusal_in r) _ _ c.in_err-change.field-0.0
+    (refused_by _ (refusal_in r) _ _ c.in_err-change.field-0.0
     (change-refused r c.args.input.now.files.now c.in_err-change.field-0.0 other (sym c.in_err-change.ensures.exact)))
 
-apply-ends : (frames : Bool) (refusal : Option RecordingError) (drawn drawn' samples : ℕ) (change : Change) (error : StacksError)
+apply-ends : (failed : Bool) (refusal : Option RecordingError) (drawn drawn' samples : ℕ) (change : Change) (error : StacksError)
     → drawn ≤ drawn' → (IsWithoutAddress change → ⊥) → MayEnd false None drawn 0 error ⊎ ((error ≡ EmptyMapping) × IsWithoutAddress change)
-    → MayEnd frames refusal drawn' samples error
-apply-ends frames refusal drawn drawn' samples change error more addressed (inl ends) =
-    ends_more false frames None refusal drawn drawn' 0 samples error (λ writes. absurd (true≢false (sym writes)))
+    → MayEnd failed refusal drawn' samples error
+apply-ends failed refusal drawn drawn' samples change error more addressed (inl ends) =
+    ends_more false failed None refusal drawn drawn' 0 samples error (λ writes. absurd (true≢false (sym writes)))
     (λ e none. absurd (true≢false (sym (ap is_some none)))) more (omega arith) ends
-apply-ends frames refusal drawn drawn' samples change error more addressed (inr without) = absurd (addressed without.1)
+apply-ends failed refusal drawn drawn' samples change error more addressed (inr without) = absurd (addressed without.1)
 
 pub returns-in_err-apply-clause-refused : goal.returns-in_err-apply-clause-refused
 returns-in_err-apply-clause-refused g c = λ samples counted.
@@ -139,7 +139,7 @@ returns-in_err-apply-clause-refused g c = λ samples counted.
     let drawn : drawn_in (change_in files r) mapped ≡ drawn_by change mapped = ap (λ read. drawn_in read mapped) is in
     let addressed : IsAddressed (Some change) = subst (λ read. IfOk read IsAddressed) is (change-addressed files r) in
     failed_as c.from_residual-in_err-apply.result _ _ c.from_residual-in_err-apply.ensures.1
-    (apply-ends c.args.input.now.options.frames (refusal_in r) (c.args.self.now.processes.generations + drawn_by change mapped)
+    (apply-ends _ (refusal_in r) (c.args.self.now.processes.generations + drawn_by change mapped)
     (c.args.self.now.processes.generations + drawn_in (change_in files r) mapped) _ change c.in_err-apply.field-0.0
     (omega (arith, drawn)) (not-empty change addressed) c.in_err-apply.ensures.refused)
 

@@ -1,7 +1,9 @@
 use Rattle.std.proofs.Common.{◌≡◌, ◌+◌, ◌<◌, ◌++◌, [], map, take, drop, length, Result, Ok, Err, IsErrAnd, refl, ap, sym, ◌∙◌, subst, append-nil, true≢false, arith}
 use Rattle.std.specs.Prelude.{is_some}
 use Rattle.std.specs.List.{count_by}
+use Rattle.std.proofs.Math.Bool.{or-false}
 use Rattle.std.proofs.lemmas.List.{at_drop_all}
+use Rattle.framehop_output.specs.Output.{OutputView}
 use Rattle.framehop_recording.specs.Attributes.{attribute_view}
 use Rattle.framehop_perf_stacks.specs.Bodies.{with_body}
 use Rattle.framehop_perf_stacks.specs.Ended.{first_refusal, before_refusal, MayEnd}
@@ -33,8 +35,9 @@ loop-timed-init g c = (
     draws = omega arith;
     loses = refl;
     each = tt;
-    taken = AreTaken-none c.args.input.now.options.frames c.args.self.now.counts (g.W.Write.contents c.args.out.now);
+    taken = AreTaken-none c.args.input.now.options.frames c.args.self.now.counts c.args.out.now.bytes;
   },
+  refl,
 )
 
 pub loop-timed-preserved : goal.loop-timed-preserved
@@ -59,19 +62,20 @@ loop-timed-preserved g c =
           step c.args.input.now.files.now
           (IsToldWith module_of g.U.Steps.walker g.U.Steps.is_note g.U.Sampled.starts c.args.input.now.options c.args.input.now.files.now gives attributes)
           (λ r state other named mapped told given. (given.0, given.1, text state other named mapped (sample_in attributes (with_body r given.0)) told given.2))
-          c.args.input.now.options.frames (records_in records) first c.args.self.now.counts (g.W.Write.contents c.args.out.now)
+          c.args.input.now.options.frames (records_in records) first c.args.self.now.counts c.args.out.now.bytes
           c.args.self.now.processes.generations
           _ (records_in (drop (l.timed-index + 1) records)) l.self.names c.take_record.new.self.names
           l.self.processes.by_pid c.take_record.new.self.processes.by_pid l.self.counts c.take_record.new.self.counts
-          (g.W.Write.contents l.out) (g.W.Write.contents c.take_record.new.out)
+          l.out.bytes c.take_record.new.out.bytes
           l.self.processes.generations c.take_record.new.self.processes.generations
           (subst (λ rest. IsSoFar c.args.input.now.files.now
           (IsToldWith module_of g.U.Steps.walker g.U.Steps.is_note g.U.Sampled.starts c.args.input.now.options c.args.input.now.files.now gives attributes)
-          c.args.input.now.options.frames (records_in records) first c.args.self.now.counts (g.W.Write.contents c.args.out.now)
+          c.args.input.now.options.frames (records_in records) first c.args.self.now.counts c.args.out.now.bytes
           c.args.self.now.processes.generations rest
-          l.self.names l.self.processes.by_pid l.self.counts (g.W.Write.contents l.out) l.self.processes.generations) left so)
+          l.self.names l.self.processes.by_pid l.self.counts l.out.bytes l.self.processes.generations) left so)
           after.read after.drawn after.state after.sample
-          (λ kind. let same = after.other kind in (same.0, ap (λ out. g.W.Write.contents out) same.1)) after.lost,
+          (λ kind. let same = after.other kind in (same.0, ap (λ (out : OutputView). out.bytes) same.1)) after.lost,
+      after.noted ∙ or-false l.out.has_failed ∙ l.invariant.3,
     )
 
 pub returns-clause-state : goal.returns-clause-state
@@ -127,19 +131,19 @@ returns-in_err-take_record-clause-before g c = λ first agrees refusal is.
     let rest = records_in (drop (l.timed-index + 1) records) in
     let ended = same-refusal c.from_residual.result c.in_err-take_record.field-0.0 refusal c.from_residual.ensures.1 is in
     let ends = c.in_err-take_record.ensures.refused (count_by is_sample (take l.timed-index records)) l.invariant.1 in
-    let here = subst (MayEnd frames _ _ _) ended ends in
+    let here = subst (MayEnd _ _ _ _) ended ends in
     let kept = c.in_err-take_record.ensures.other (λ kind. true≢false (sym (ap is_some here) ∙ ap is_some (sample-unrefused _ kind))) in
     let so = subst (λ rest. IsSoFar files IsText frames (records_in records) first c.args.self.now.counts
-    (g.W.Write.contents c.args.out.now) c.args.self.now.processes.generations rest l.self.names l.self.processes.by_pid l.self.counts
-    (g.W.Write.contents l.out) l.self.processes.generations) left (l.invariant.2 first agrees) in
+    c.args.out.now.bytes c.args.self.now.processes.generations rest l.self.names l.self.processes.by_pid l.self.counts
+    l.out.bytes l.self.processes.generations) left (l.invariant.2 first agrees) in
     let told = told-before files IsText frames (records_in records) first c.args.self.now.counts
-    (g.W.Write.contents c.args.out.now) c.args.self.now.processes.generations _ rest l.self.names l.self.processes.by_pid l.self.counts
-    (g.W.Write.contents l.out) l.self.processes.generations so refusal here in (
+    c.args.out.now.bytes c.args.self.now.processes.generations _ rest l.self.names l.self.processes.by_pid l.self.counts
+    l.out.bytes l.self.processes.generations so refusal here in (
       so.texts,
       subst (λ told. Each IsText told so.texts) told so.each,
       AreTaken-same frames so.texts c.args.self.now.counts l.self.counts c.take_record.new.self.counts
-          (g.W.Write.contents c.args.out.now) (g.W.Write.contents l.out) (g.W.Write.contents c.take_record.new.out) so.taken
-          kept.0 (ap (λ out. g.W.Write.contents out) kept.1),
+          c.args.out.now.bytes l.out.bytes c.take_record.new.out.bytes so.taken
+          kept.0 (ap (λ (out : OutputView). out.bytes) kept.1),
     )
 
 pub returns-clause-lost : goal.returns-clause-lost
@@ -167,14 +171,14 @@ returns-in_err-take_record-clause-lost_before g c = λ refusal is.
     let rest = records_in (drop (l.timed-index + 1) records) in
     let ended = same-refusal c.from_residual.result c.in_err-take_record.field-0.0 refusal c.from_residual.ensures.1 is in
     let ends = c.in_err-take_record.ensures.refused (count_by is_sample (take l.timed-index records)) l.invariant.1 in
-    let here = subst (MayEnd frames _ _ _) ended ends in
+    let here = subst (MayEnd _ _ _ _) ended ends in
     let so = subst (λ rest. IsSoFar files IsText frames (records_in records) begun c.args.self.now.counts
-    (g.W.Write.contents c.args.out.now) c.args.self.now.processes.generations rest l.self.names l.self.processes.by_pid l.self.counts
-    (g.W.Write.contents l.out) l.self.processes.generations) left (l.invariant.2 begun (record { named = λ tid. refl; mapped = λ pid. refl })) in
+    c.args.out.now.bytes c.args.self.now.processes.generations rest l.self.names l.self.processes.by_pid l.self.counts
+    l.out.bytes l.self.processes.generations) left (l.invariant.2 begun (record { named = λ tid. refl; mapped = λ pid. refl })) in
     c.in_err-take_record.ensures.lost_before refusal here
     ∙ loses-before files IsText frames (records_in records) begun c.args.self.now.counts
-    (g.W.Write.contents c.args.out.now) c.args.self.now.processes.generations _ rest l.self.names l.self.processes.by_pid l.self.counts
-    (g.W.Write.contents l.out) l.self.processes.generations so refusal here
+    c.args.out.now.bytes c.args.self.now.processes.generations _ rest l.self.names l.self.processes.by_pid l.self.counts
+    l.out.bytes l.self.processes.generations so refusal here
 
 pub returns-in_err-take_record-clause-refused : goal.returns-in_err-take_record-clause-refused
 returns-in_err-take_record-clause-refused g c = λ first agrees.
@@ -191,14 +195,14 @@ returns-in_err-take_record-clause-refused g c = λ first agrees.
     let rest = records_in (drop (l.timed-index + 1) records) in
     let ends = c.in_err-take_record.ensures.refused (count_by is_sample (take l.timed-index records)) l.invariant.1 in
     let so = subst (λ rest. IsSoFar files IsText frames (records_in records) first c.args.self.now.counts
-    (g.W.Write.contents c.args.out.now) c.args.self.now.processes.generations rest l.self.names l.self.processes.by_pid l.self.counts
-    (g.W.Write.contents l.out) l.self.processes.generations) left (l.invariant.2 first agrees) in
+    c.args.out.now.bytes c.args.self.now.processes.generations rest l.self.names l.self.processes.by_pid l.self.counts
+    l.out.bytes l.self.processes.generations) left (l.invariant.2 first agrees) in
     failed_as c.from_residual.result c.in_err-take_record.field-0.0 _ c.from_residual.ensures.1
-    (ends_more frames frames _ _ _ _ _ _ c.in_err-take_record.field-0.0 (λ writes. writes)
+    (ends_more _ _ _ _ _ _ _ _ c.in_err-take_record.field-0.0 (λ writes. writes)
     (λ refusal is. refused-here files IsText frames (records_in records) first c.args.self.now.counts
-    (g.W.Write.contents c.args.out.now) c.args.self.now.processes.generations _ rest l.self.names l.self.processes.by_pid l.self.counts
-    (g.W.Write.contents l.out) l.self.processes.generations so refusal is)
+    c.args.out.now.bytes c.args.self.now.processes.generations _ rest l.self.names l.self.processes.by_pid l.self.counts
+    l.out.bytes l.self.processes.generations so refusal is)
     (draws-here files IsText frames (records_in records) first c.args.self.now.counts
-    (g.W.Write.contents c.args.out.now) c.args.self.now.processes.generations _ rest l.self.names l.self.processes.by_pid l.self.counts
-    (g.W.Write.contents l.out) l.self.processes.generations so)
+    c.args.out.now.bytes c.args.self.now.processes.generations _ rest l.self.names l.self.processes.by_pid l.self.counts
+    l.out.bytes l.self.processes.generations so)
     (samples-within items records same l.timed-index _ within) ends)

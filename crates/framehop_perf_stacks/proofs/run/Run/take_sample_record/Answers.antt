@@ -15,6 +15,6 @@ returns-in_ok-take_stack-in-Err-clause-told g c = λ served.
     (thread_members (codes "[unknown]") None None None) [] [] false stack [] in
     let stack = unread_stack (sample_refusal c.in-Err.error) [] in
     let taken = subst (λ stack. IsTaken options.frames (told stack)
-    c.args.self.now.counts c.take_stack.new.counts (g.W.Write.contents c.args.out.now) (g.W.Write.contents c.take_stack.new.out))
+    c.args.self.now.counts c.take_stack.new.counts c.args.out.now.bytes c.take_stack.new.out.bytes)
     (c.no_stack-stack.ensures ∙ ap (λ why. unread_stack why []) c.refusal_name.ensures) c.in_ok-take_stack-in-Err.ensures.taken in
     rw c.in-Err.ensures.exact (told stack, (stack, ([], (refl, refl), refl)), taken)

@@ -16,5 +16,5 @@ returns-clause-taken g c =
     subst (λ (stack : SampleStack). IsTaken options.frames
     (told_by options c.args.input.now.files.now (named_in c.args.self.now.names c.args.sample.tid) (Some c.args.sample)
     (mapped_in c.args.self.now.processes.by_pid c.args.sample.pid) stack [])
-    c.args.self.now.counts c.take_known.new.self.counts (g.W.Write.contents c.args.out.now) (g.W.Write.contents c.take_known.new.out))
+    c.args.self.now.counts c.take_known.new.self.counts c.args.out.now.bytes c.take_known.new.out.bytes)
     stack c.in_ok-take_known.ensures.taken

@@ -1,2 +1,0 @@
--- Lemmas that the trait's law is.
-pub mod Parts
