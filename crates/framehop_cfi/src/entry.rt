@@ -256,7 +256,7 @@ impl<'a> UnwindSection<'a> {
 
     /// Returns the CIE whose fields begin after its id and end with the entry, or with the section.
     #[tactic(auto, unfolding(crate::specs::Entry::cie_fields))]
-    pub fn read_cie(&self, fields: usize, end: usize) -> Result<CommonInformationEntry, ReadError>
+    fn read_cie(&self, fields: usize, end: usize) -> Result<CommonInformationEntry, ReadError>
         ensures exact { result ≡ cie_fields self.now.kind self.now.bases (take end self.now.bytes) fields end }
         ensures end { IfOk result (λ cie. cie.end ≡ end) }
         ensures memory { result ≢ Err ReadError.OutOfMemory }

@@ -34,6 +34,7 @@ pub mod extent;
 pub mod header;
 pub mod instruction;
 mod instruction_code;
+pub mod known_cies;
 pub mod leb128;
 pub mod numbers;
 pub mod pointer;

@@ -1,15 +1,12 @@
 -- The entries of a call frame section, one after another (DWARF 5 section 6.4.1; LSB, ".eh_frame").
-use Rattle.std.specs.Prelude.{ℕ, ◌+◌, ◌<◌, ◌≤◌, ◌≡◌, true, false, List, [], ◌∷◌, length, Option, Some, None, IfSome, Result, Ok, Err}
-use Rattle.std.specs.BTreeMap.{BTreeMap, get}
-use Rattle.std.specs.Ordering.{nat_cmp}
+use Rattle.std.specs.Prelude.{ℕ, ◌+◌, ◌<◌, ◌≤◌, ◌≡◌, true, false, List, [], ◌∷◌, length, Result, Ok, Err}
 use Rattle.std.specs.Io.Iter.{u64_saturate}
 use Rattle.framehop_cfi.specs.Section.{Section}
-use Rattle.framehop_cfi.specs.Entry.{head_at, cie_at, fde_at}
+use Rattle.framehop_cfi.specs.Entry.{head_at, fde_at}
 use Rattle.framehop_cfi.specs.EntryExtent.{extent_at, is_zero_length}
 use Rattle.framehop_cfi.specs.declared.extent.EntryExtent.{EntryExtent}
 use Rattle.framehop_cfi.specs.declared.entry.EntryHead.{EntryHead}
 use Rattle.framehop_cfi.specs.declared.entry.EntryHead.TheVariants as head
-use Rattle.framehop_cfi.specs.declared.entry.CommonInformationEntry.{CommonInformationEntry}
 use Rattle.framehop_cfi.specs.declared.entry.FrameDescriptionEntry.{FrameDescriptionEntry}
 use Rattle.framehop_cfi.specs.declared.entry.UnwindSectionType.TheVariants.{EhFrame, DebugFrame}
 use Rattle.framehop_cfi.specs.declared.read_error.ReadError.{ReadError}
@@ -79,13 +76,3 @@ range_of fde = record { start = fde.initial_address; end = u64_saturate (fde.ini
 abbrev pub entry_of : Section → Place → Entry
 entry_of section (At offset) = entry_at section offset
 entry_of section CutOff = Unreadable
-
--- the CIE at an offset, if it can be read
-abbrev pub if_read : Result CommonInformationEntry ReadError → Option CommonInformationEntry
-if_read (Ok cie) = Some cie
-if_read (Err error) = None
-
--- what is kept of an offset is the CIE there
-abbrev pub IsKept : Section → BTreeMap ℕ (Option CommonInformationEntry) → Type 0
-IsKept section cies =
-    (offset : ℕ) → IfSome (get nat_cmp cies offset) (λ cie. cie ≡ if_read (cie_at section offset))

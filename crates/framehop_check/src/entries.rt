@@ -1,18 +1,15 @@
 //! The entries of a call frame section, one after another.
 ghost use Rattle.std.specs.Prelude.{◌≡◌, ◌<◌, [], ◌∷◌, List, IfSome, IfOk, map};
 ghost use Rattle.std.specs.Io.Iter.{u64_saturate};
-ghost use Rattle.framehop_cfi.specs.Entry.{cie_at};
 ghost use Rattle.framehop_check.specs.declared.entries.Entry.{Entry};
-ghost use Rattle.framehop_check.specs.Entries.{entry_if_read, entry_at, AreEntries, range_of, fdes_of, unreadable_in, entry_of, if_read, IsKept};
+ghost use Rattle.framehop_check.specs.Entries.{entry_if_read, entry_at, AreEntries, range_of, fdes_of, unreadable_in, entry_of};
 
 use crate::missing::Range;
-use framehop_cfi::entry::{
-    CommonInformationEntry, EntryHead, FrameDescriptionEntry, UnwindSection, UnwindSectionType,
-};
+use framehop_cfi::entry::{EntryHead, FrameDescriptionEntry, UnwindSection, UnwindSectionType};
 use framehop_cfi::extent::read_extent;
+use framehop_cfi::known_cies::KnownCies;
 use framehop_cfi::read_error::ReadError;
 use std::alloc::{AllocError, Global};
-use std::collections::BTreeMap;
 
 /// An entry of a call frame section.
 #[derive(Clone, Copy, Debug, PartialEq, Eq)]
@@ -55,7 +52,7 @@ pub fn read_fdes(alloc: Global, section: &UnwindSection) -> Result<Fdes, AllocEr
         list: Vec::new(alloc),
         unreadable: 0,
     };
-    let mut cies = BTreeMap::new(alloc);
+    let mut cies = KnownCies::new(alloc, section);
     let mut at = 0;
     while at < section.bytes.len() {
         let Some(place) = next_place(section, &mut at) else {
@@ -121,12 +118,12 @@ fn next_place(section: &UnwindSection, at: &mut usize) -> Option<Place>
 /// Returns the entry at a place.
 fn read_entry(
     section: &UnwindSection,
-    cies: &mut BTreeMap<usize, Option<CommonInformationEntry>>,
+    cies: &mut KnownCies<'_>,
     place: Place,
 ) -> Result<Entry, AllocError>
-    requires { IsKept section.now cies.old }
+    requires { cies.old ≡ section.now }
     ensures exact { IfOk result (λ entry. entry ≡ entry_of section.now place) }
-    ensures kept { IsKept section.now cies.new }
+    ensures kept { cies.new ≡ cies.old }
 {
     match place {
         Place::At(offset) => read_entry_at(section, cies, offset),
@@ -138,12 +135,12 @@ fn read_entry(
 #[tactic(auto, unfolding(crate::specs::Entries::entry_at, framehop_cfi::specs::Entry::fde_at))]
 fn read_entry_at(
     section: &UnwindSection,
-    cies: &mut BTreeMap<usize, Option<CommonInformationEntry>>,
+    cies: &mut KnownCies<'_>,
     at: usize,
 ) -> Result<Entry, AllocError>
-    requires { IsKept section.now cies.old }
+    requires { cies.old ≡ section.now }
     ensures exact { IfOk result (λ entry. entry ≡ entry_at section.now at) }
-    ensures kept { IsKept section.now cies.new }
+    ensures kept { cies.new ≡ cies.old }
 {
     match section.head_at(at) {
         Ok(
@@ -152,10 +149,7 @@ fn read_entry_at(
                 fields,
                 end,
             },
-        ) => match read_cie(section, cies, cie_offset)? {
-            Some(cie) => Ok(entry_if_read(section.read_fde(&cie, fields, end))),
-            None => Ok(Entry::Unreadable),
-        },
+        ) => Ok(entry_if_read(cies.read_fde(cie_offset, fields, end)?)),
         Ok(_) => Ok(Entry::Other),
         Err(_) => Ok(Entry::Unreadable),
     }
@@ -168,33 +162,5 @@ fn entry_if_read(read: Result<FrameDescriptionEntry, ReadError>) -> Entry
     match read {
         Ok(fde) => Entry::Fde(fde),
         Err(_) => Entry::Unreadable,
-    }
-}
-
-/// Returns the CIE at an offset, if it can be read, and keeps it.
-fn read_cie(
-    section: &UnwindSection,
-    cies: &mut BTreeMap<usize, Option<CommonInformationEntry>>,
-    offset: usize,
-) -> Result<Option<CommonInformationEntry>, AllocError>
-    requires { IsKept section.now cies.old }
-    ensures exact { IfOk result (λ cie. cie ≡ if_read (cie_at section.now offset)) }
-    ensures kept { IsKept section.now cies.new }
-{
-    if let Some(cie) = cies.get(&offset) {
-        return Ok(*cie);
-    }
-    let cie = if_read(section.cie_from_offset(offset));
-    cies.insert(offset, cie)?;
-    Ok(cie)
-}
-
-/// Returns the CIE that was read, if one was.
-fn if_read(read: Result<CommonInformationEntry, ReadError>) -> Option<CommonInformationEntry>
-    ensures { result ≡ if_read read }
-{
-    match read {
-        Ok(cie) => Some(cie),
-        Err(_) => None,
     }
 }

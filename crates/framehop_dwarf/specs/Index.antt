@@ -3,10 +3,9 @@
 use Rattle.std.specs.Prelude.{ℕ, ◌-◌, ◌/◌, ◌%◌, ◌^◌, ◌<◌, ◌≤◌, ◌≡◌, true, length, slice_index_or, List, [], ◌∷◌, Option, Some, None, option_map, Result, Ok, Err, nat_le, nat_lt, if◌then◌else◌, IsPermutation}
 use Rattle.framehop_dwarf.specs.Tree.{not_after, IsSearchTree}
 use Rattle.framehop_cfi.specs.Section.{Section}
-use Rattle.framehop_cfi.specs.Entry.{cie_at, fde_at}
+use Rattle.framehop_cfi.specs.Entry.{fde_at}
 use Rattle.framehop_cfi.specs.Entries.{cut, AreOffsets}
 use Rattle.framehop_cfi.specs.EntryMeaning.{IsFde}
-use Rattle.framehop_cfi.specs.declared.entry.CommonInformationEntry.{CommonInformationEntry}
 use Rattle.framehop_cfi.specs.declared.entry.FrameDescriptionEntry.{FrameDescriptionEntry}
 use Rattle.framehop_cfi.specs.declared.read_error.ReadError.{ReadError}
 use Rattle.framehop_cfi.specs.declared.read_error.ReadError.TheVariants.{BadLength, Eof, OutOfMemory}
@@ -98,11 +97,6 @@ abbrev pub IsFdeFor : List (ℕ × ℕ) → ℕ → Option ℕ → Type 0
 IsFdeFor pairs address offset =
     (pair : Option (ℕ × ℕ)) × (option_map (λ (p : ℕ × ℕ). p.1) pair ≡ offset) × Greatest pairs address pair
     × Among pairs address pair
-
--- a CIE that was read before is the one at its offset
-abbrev pub IsKnown : Section → Option (ℕ × CommonInformationEntry) → Type 0
-IsKnown section None = Unit {0}
-IsKnown section (Some known) = cie_at section known.0 ≡ Ok known.1
 
 -- a pair, by the number that it is sorted by
 abbrev pub pair_of_key : ℕ → ℕ × ℕ

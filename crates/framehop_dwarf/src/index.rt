@@ -7,21 +7,19 @@
 ghost use Rattle.std.specs.Prelude.{◌≡◌, ◌≢◌, ◌+◌, ◌^◌, ◌<◌, ◌≤◌, ◌*◌, ◌-◌, length, map, IfOk, IfErr, Ok, Err, false, IsPermutation};
 ghost use Rattle.framehop_cfi.specs.Section.{section_of};
 ghost use Rattle.framehop_cfi.specs.EntryExtent.{extent_at, is_zero_length};
-ghost use Rattle.framehop_cfi.specs.Entry.{cie_at, head_at, fde_of_head};
-ghost use Rattle.framehop_dwarf.specs.Index.{pair_of, pair_if_read, pair_at, pairs_of, pair_of_key, fde_offset_for, IsFdeFor, IsKnown, IsIndexOf, IsIndexOfAll, IsIndexRefusal, HasNoIndex};
+ghost use Rattle.framehop_cfi.specs.Entry.{fde_of_head};
+ghost use Rattle.framehop_dwarf.specs.Index.{pair_of, pair_if_read, pair_at, pairs_of, pair_of_key, fde_offset_for, IsFdeFor, IsIndexOf, IsIndexOfAll, IsIndexRefusal, HasNoIndex};
 ghost use Rattle.framehop_dwarf.specs.Tree.{left_to_right, looked_at, IsAscending, IsWithinDigits, IsSearchTree, IsOnPath, AreShortcuts, StartUpTo, AreTops};
 ghost use Rattle.framehop_dwarf.specs.declared.index.DwarfCfiIndexError.TheVariants.{Gimli};
 ghost use Rattle.framehop_cfi.specs.declared.read_error.ReadError.TheVariants.{OutOfMemory};
 ghost use Rattle.framehop_dwarf.specs.Bases.{section_in};
 ghost use Rattle.framehop_cfi.specs.declared.entry.UnwindSectionType.TheVariants.{EhFrame, DebugFrame};
-ghost use Rattle.framehop_cfi.specs.declared.entry.EntryHead.TheVariants.{Fde};
 
 use crate::bases::base_addresses_for_sections;
 use framehop_bytes::section::ModuleSectionInfo;
-use framehop_cfi::entry::{
-    CommonInformationEntry, EntryHead, FrameDescriptionEntry, UnwindSection, UnwindSectionType,
-};
+use framehop_cfi::entry::{EntryHead, FrameDescriptionEntry, UnwindSection, UnwindSectionType};
 use framehop_cfi::extent::{EntryExtent, read_extent};
+use framehop_cfi::known_cies::KnownCies;
 use framehop_cfi::pointer::BaseAddresses;
 use framehop_cfi::read_error::ReadError;
 use std::alloc::{AllocError, Global};
@@ -235,7 +233,7 @@ fn read_keys(
     ensures first { IfErr result (λ error. error ≢ Gimli OutOfMemory → pairs_of section.now base_svma ≡ Err error) }
 {
     let mut keys = Vec::new(alloc);
-    let mut known = None;
+    let mut cies = KnownCies::new(alloc, section);
     let mut at = 0;
     while at < section.bytes.len() {
         let extent = match read_extent(section.bytes, at) {
@@ -248,7 +246,7 @@ fn read_keys(
                 UnwindSectionType::DebugFrame => {}
             }
         } else {
-            match visit_entry(section, base_svma, &mut known, at, &extent) {
+            match visit_entry(section, base_svma, &mut cies, at, &extent)? {
                 Some(pair) => {
                     if keys.push(key_of(pair)).is_err() {
                         return Err(DwarfCfiIndexError::Gimli(ReadError::OutOfMemory));
@@ -268,89 +266,47 @@ fn read_keys(
 fn visit_entry(
     section: &UnwindSection,
     base_svma: u64,
-    known: &mut Option<(usize, CommonInformationEntry)>,
+    cies: &mut KnownCies<'_>,
     at: usize,
     extent: &EntryExtent,
-) -> Option<(u32, u32)>
-    requires known { IsKnown section.now known.old }
+) -> Result<Option<(u32, u32)>, DwarfCfiIndexError>
+    requires same { cies.old ≡ section.now }
     requires extent { extent_at section.now.bytes at ≡ Ok extent.now }
     requires some { is_zero_length extent.now ≡ false }
-    ensures exact { result ≡ pair_at section.now base_svma at }
-    ensures known { IsKnown section.now known.new }
+    ensures exact { IfOk result (λ pair. pair ≡ pair_at section.now base_svma at) }
+    ensures memory { IfErr result (λ error. error ≡ Gimli OutOfMemory) }
+    ensures kept { cies.new ≡ cies.old }
 {
-    let head = section.head_of(extent).ok()?;
-    read_pair(section, base_svma, known, at, head)
+    match section.head_of(extent) {
+        Ok(head) => read_pair(base_svma, cies, at, head),
+        Err(_) => Ok(None),
+    }
 }
 
-/// Returns the pair of the entry at an offset that begins with a head, if it is an FDE that can be read and fits. A
-/// CIE that can be read is known from then on.
+/// Returns the pair of the entry at an offset that begins with a head, if it is an FDE that can be read and fits.
 #[tactic(auto, unfolding(framehop_cfi::specs::Entry::cie_at))]
 fn read_pair(
-    section: &UnwindSection,
     base_svma: u64,
-    known: &mut Option<(usize, CommonInformationEntry)>,
+    cies: &mut KnownCies<'_>,
     at: usize,
     head: EntryHead,
-) -> Option<(u32, u32)>
-    requires known { IsKnown section.now known.old }
-    requires head { head_at section.now.kind section.now.bytes at ≡ Ok head }
-    ensures exact { result ≡ pair_if_read base_svma at (fde_of_head section.now head) }
-    ensures known { IsKnown section.now known.new }
+) -> Result<Option<(u32, u32)>, DwarfCfiIndexError>
+    ensures exact { IfOk result (λ pair. pair ≡ pair_if_read base_svma at (fde_of_head cies.old head)) }
+    ensures memory { IfErr result (λ error. error ≡ Gimli OutOfMemory) }
+    ensures kept { cies.new ≡ cies.old }
 {
     match head {
-        EntryHead::ZeroLength(_) => None,
-        EntryHead::Cie { fields, end } => {
-            if let Ok(cie) = section.read_cie(fields, end) {
-                *known = Some((at, cie));
-            }
-            None
-        }
         EntryHead::Fde {
             cie_offset,
             fields,
             end,
-        } => {
-            let fde = read_fde(section, known, cie_offset, fields, end).ok()?;
-            pair_of(base_svma, at, &fde)
-        }
+        } => match cies.read_fde(cie_offset, fields, end) {
+            Ok(Ok(fde)) => Ok(pair_of(base_svma, at, &fde)),
+            Ok(Err(_)) => Ok(None),
+            Err(_) => Err(DwarfCfiIndexError::Gimli(ReadError::OutOfMemory)),
+        },
+        _ => Ok(None),
     }
-}
-
-/// Returns the FDE whose CIE is at `cie_offset`, and whose fields begin after that and end with the entry.
-#[tactic(auto, unfolding(framehop_cfi::specs::Entry::fde_of_head))]
-fn read_fde(
-    section: &UnwindSection,
-    known: &mut Option<(usize, CommonInformationEntry)>,
-    cie_offset: usize,
-    fields: usize,
-    end: usize,
-) -> Result<FrameDescriptionEntry, ReadError>
-    requires { IsKnown section.now known.old }
-    ensures exact { result ≡ fde_of_head section.now (Fde cie_offset fields end) }
-    ensures known { IsKnown section.now known.new }
-{
-    let cie = cie_from_offset(section, known, cie_offset)?;
-    section.read_fde(&cie, fields, end)
-}
-
-/// Returns the CIE at an offset, which is the one that was read last, if it is there.
-fn cie_from_offset(
-    section: &UnwindSection,
-    known: &mut Option<(usize, CommonInformationEntry)>,
-    at: usize,
-) -> Result<CommonInformationEntry, ReadError>
-    requires { IsKnown section.now known.old }
-    ensures exact { result ≡ cie_at section.now at }
-    ensures known { IsKnown section.now known.new }
-{
-    if let Some((offset, cie)) = *known
-        && offset == at
-    {
-        return Ok(cie);
-    }
-    let cie = section.cie_from_offset(at)?;
-    *known = Some((at, cie));
-    Ok(cie)
 }
 
 /// Returns an FDE's start relative to the base, and its offset, if both fit 32 bits.

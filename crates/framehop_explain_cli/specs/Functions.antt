@@ -1,13 +1,10 @@
 -- What a file without addresses prints: a line for each FDE of its call frame section, in the order of the section.
-use Rattle.std.specs.Prelude.{ℕ, ◌+◌, ◌%◌, ◌^◌, ◌≡◌, Bool, false, List, [], ◌∷◌, ◌++◌, codes, IfSome, Result, Ok, Err}
-use Rattle.std.specs.BTreeMap.{BTreeMap, get}
-use Rattle.std.specs.Ordering.{nat_cmp}
+use Rattle.std.specs.Prelude.{ℕ, ◌+◌, ◌%◌, ◌^◌, Bool, false, List, [], ◌∷◌, ◌++◌, codes, Result, Ok, Err}
 use Rattle.std.specs.List.{flat_map}
 use Rattle.framehop_cfi.specs.Entries.{cut}
-use Rattle.framehop_cfi.specs.Entry.{head_at, cie_at, fde_at}
+use Rattle.framehop_cfi.specs.Entry.{head_at, fde_at}
 use Rattle.framehop_cfi.specs.Section.{Section}
 use Rattle.framehop_cfi.specs.EntryExtent.{is_zero_length}
-use Rattle.framehop_cfi.specs.declared.entry.CommonInformationEntry.{CommonInformationEntry}
 use Rattle.framehop_cfi.specs.declared.entry.EntryHead.{EntryHead}
 use Rattle.framehop_cfi.specs.declared.entry.EntryHead.TheVariants.{ZeroLength, Cie, Fde}
 use Rattle.framehop_cfi.specs.declared.entry.FrameDescriptionEntry.{FrameDescriptionEntry}
@@ -44,10 +41,6 @@ line_by section at (Err error) = []
 
 unfoldable pub entry_line : Section → ℕ → List ℕ
 entry_line section at = line_by section at (head_at section.kind section.bytes at)
-
--- what is kept of an offset is the CIE there, or why it can't be read
-abbrev pub IsKept : Section → BTreeMap ℕ (Result CommonInformationEntry ReadError) → Type 0
-IsKept section cies = (offset : ℕ) → IfSome (get nat_cmp cies offset) (λ cie. cie ≡ cie_at section offset)
 
 -- an entry of this extent ends the section: a length of 0 does in `.eh_frame`
 abbrev pub ends_section : UnwindSectionType → EntryExtent → Bool

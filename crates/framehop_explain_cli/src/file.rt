@@ -4,7 +4,6 @@
 //! tell it.
 ghost use Rattle.std.specs.Prelude.{◌≡◌, ◌≢◌, ◌++◌, ℕ, List, codes, None, Ok, Err, IfOk, IfErr, OnOk, string_bytes};
 ghost use Rattle.framehop_core.specs.Memory.{reply};
-ghost use Rattle.framehop_cfi.specs.Entry.{cie_at};
 ghost use Rattle.framehop_dwarf.specs.Unwinder.{reading_of};
 ghost use Rattle.framehop.specs.Laws.SectionContents.{table_bytes};
 ghost use Rattle.framehop.specs.ModuleData.{unwind_data_in};
@@ -14,7 +13,7 @@ ghost use Rattle.framehop_explain.specs.Found.{explaining_by};
 ghost use Rattle.framehop_explain_cli.specs.FileText.{frames_in, range_line, row_line, fde_lines, source_lines, is_row, lacks_stack, no_rule_text, told_line, near_text, far_text, pe_line, entry_text, pe_lines, all_functions, functions_unless_asked, IsToldOf, IsAddressText, IsModuleText};
 ghost use Rattle.framehop_explain_cli.specs.Files.{elf_machine, of_elf, of_contents, of_pe, debug_frame_in, elf_of, pe_of, file_of, IsFileText, IsFileProblem};
 ghost use Rattle.framehop_explain_cli.specs.declared.file.FileProblem.TheVariants.{OutOfMemory as NoMemory};
-ghost use Rattle.framehop_explain_cli.specs.Functions.{unread_line, fde_line, entry_line, IsKept, ends_section, function_lines};
+ghost use Rattle.framehop_explain_cli.specs.Functions.{unread_line, fde_line, entry_line, ends_section, function_lines};
 
 use crate::row_text::{RegisterNames, push_row};
 use framehop::aarch64::{ArchAarch64, UnwindRegsAarch64};
@@ -25,10 +24,9 @@ use framehop::x86_64::{ArchX86_64, UnwindRegsX86_64};
 use framehop::{Module, ModuleListError, ModuleSectionInfo, UnwinderError};
 use framehop_cfi::context::UnwindContext;
 use framehop_cfi::dwarf_error::DwarfUnwinderError;
-use framehop_cfi::entry::{
-    CommonInformationEntry, EntryHead, FrameDescriptionEntry, UnwindSection, UnwindSectionType,
-};
+use framehop_cfi::entry::{EntryHead, FrameDescriptionEntry, UnwindSection, UnwindSectionType};
 use framehop_cfi::extent::{EntryExtent, read_extent};
+use framehop_cfi::known_cies::KnownCies;
 use framehop_cfi::read_error::ReadError;
 use framehop_cfi::storage::StoreOnHeap;
 use framehop_dwarf::unwinder::find_row;
@@ -50,7 +48,6 @@ use framehop_pe_file::error::PeError;
 use framehop_pe_file::header::Machine as PeMachine;
 use framehop_pe_file::{header, section_header, unwind_sections};
 use std::alloc::{AllocError, Global};
-use std::collections::BTreeMap;
 use thiserror::Error;
 
 /// Why a file is not explained.
@@ -605,7 +602,7 @@ fn push_functions(
 ) -> Result<(), AllocError>
     ensures { OnOk result (string_bytes out.new ≡ string_bytes out.old ++ function_lines section.now) }
 {
-    let mut cies = BTreeMap::new(alloc);
+    let mut cies = KnownCies::new(alloc, section);
     let mut at = 0;
     while at < section.bytes.len() {
         let Ok(extent) = read_extent(section.bytes, at) else {
@@ -634,13 +631,13 @@ fn ends_section(section: &UnwindSection<'_>, extent: &EntryExtent) -> bool
 #[tactic(auto, unfolding(crate::specs::Functions::entry_line, framehop_cfi::specs::Entry::fde_at))]
 fn push_entry(
     section: &UnwindSection<'_>,
-    cies: &mut BTreeMap<usize, Result<CommonInformationEntry, ReadError>>,
+    cies: &mut KnownCies<'_>,
     at: usize,
     out: &mut String,
 ) -> Result<(), AllocError>
-    requires { IsKept section.now cies.old }
+    requires { cies.old ≡ section.now }
     ensures appended { OnOk result (string_bytes out.new ≡ string_bytes out.old ++ entry_line section.now at) }
-    ensures kept { IsKept section.now cies.new }
+    ensures kept { cies.new ≡ cies.old }
 {
     match section.head_at(at) {
         Ok(
@@ -649,30 +646,9 @@ fn push_entry(
                 fields,
                 end,
             },
-        ) => match read_cie(section, cies, cie_offset)? {
-            Ok(cie) => push_fde_line(at, section.read_fde(&cie, fields, end), out),
-            Err(error) => push_fde_line(at, Err(error), out),
-        },
+        ) => push_fde_line(at, cies.read_fde(cie_offset, fields, end)?, out),
         _ => Ok(()),
     }
-}
-
-/// Returns the CIE at an offset, or why it can't be read, and keeps it.
-fn read_cie(
-    section: &UnwindSection<'_>,
-    cies: &mut BTreeMap<usize, Result<CommonInformationEntry, ReadError>>,
-    offset: usize,
-) -> Result<Result<CommonInformationEntry, ReadError>, AllocError>
-    requires { IsKept section.now cies.old }
-    ensures exact { IfOk result (λ cie. cie ≡ cie_at section.now offset) }
-    ensures kept { IsKept section.now cies.new }
-{
-    if let Some(cie) = cies.get(&offset) {
-        return Ok(*cie);
-    }
-    let cie = section.cie_from_offset(offset);
-    cies.insert(offset, cie)?;
-    Ok(cie)
 }
 
 /// Appends the line of the FDE at an offset: the addresses that it covers, or why it can't be read.

@@ -1,5 +1,5 @@
 -- What an exact number of units says.
-use Rattle.std.proofs.Common.{◌≡◌, ℕ, ◌^◌, true, Option, Some, ℤ, pos, negsuc, ◌*ℤ◌, ap, subst, arith, inl, inr, ltb}
+use Rattle.std.proofs.Common.{◌≡◌, ℕ, ◌^◌, true, Some, ℤ, pos, negsuc, ◌*ℤ◌, ap, subst, arith, inl, inr, ltb}
 use Rattle.std.specs.Prelude.{int_div}
 use Rattle.std.specs.Ordering.{int_eq}
 use Rattle.std.proofs.lemmas.Bool.{cases_Bool}

@@ -15,7 +15,7 @@ loop-at-preserved-in-Continue-branch-3 c =
       λ entries rest. entries-push c.args.section.now inv.0 entries entry (inv.1 _ (c.in-Some.ensures.some entries rest)),
       one-fde inv.0 entry c.in-Fde.fde _ _ is inv.2 c.in_ok-push-in-Fde.ensures.items,
       none-unreadable inv.0 entry _ (ap one_if_unreadable is) inv.3,
-      c.read_entry.ensures.kept,
+      c.read_entry.ensures.kept ∙ inv.4,
     )
 
 pub loop-at-preserved-in-Unreadable : goal.loop-at-preserved-in-Unreadable
@@ -27,7 +27,7 @@ loop-at-preserved-in-Unreadable c =
       λ entries rest. entries-push c.args.section.now inv.0 entries entry (inv.1 _ (c.in-Some.ensures.some entries rest)),
       no-fde inv.0 entry _ (ap (λ (e : Entry). with_entry e []) is) inv.2,
       one-unreadable inv.0 entry _ _ (ap one_if_unreadable is) inv.3 c.saturating_add.ensures,
-      c.read_entry.ensures.kept,
+      c.read_entry.ensures.kept ∙ inv.4,
     )
 
 pub loop-at-preserved : goal.loop-at-preserved
@@ -39,7 +39,7 @@ loop-at-preserved c =
       λ entries rest. entries-push c.args.section.now inv.0 entries entry (inv.1 _ (c.in-Some.ensures.some entries rest)),
       no-fde inv.0 entry _ (ap (λ (e : Entry). with_entry e []) is) inv.2,
       none-unreadable inv.0 entry _ (ap one_if_unreadable is) inv.3,
-      c.read_entry.ensures.kept,
+      c.read_entry.ensures.kept ∙ inv.4,
     )
 
 pub returns : goal.returns

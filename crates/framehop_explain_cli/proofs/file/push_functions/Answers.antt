@@ -1,10 +1,10 @@
-use Rattle.std.proofs.Common.{◌<◌, ◌∙◌, suc, length, string_bytes, sym, ap, arith, rules}
+use Rattle.std.proofs.Common.{◌<◌, ◌∙◌, suc, length, string_bytes, sym, ap, arith}
 use Rattle.framehop_cfi.specs.Section.{Section}
 use Rattle.framehop_explain_cli.proofs.FunctionLemmas.{extent-refused, ended, past, at-end, begins}
 use Rattle.framehop_explain_cli.proofs.file.push_functions.Goals as goal
 
 pub loop-at-init : goal.loop-at-init
-loop-at-init c = (suc (length c.args.section.now.bytes), omega arith, begins c.args.section.now (string_bytes c.args.out.now), search rules)
+loop-at-init c = (suc (length c.args.section.now.bytes), omega arith, begins c.args.section.now (string_bytes c.args.out.now), c.new-cies.ensures)
 
 pub loop-at-preserved : goal.loop-at-preserved
 loop-at-preserved c =
@@ -17,7 +17,7 @@ loop-at-preserved c =
     let ordered = within.ordered in
     let further : c.loop-at.at < c.in-Ok.extent.end = omega arith in
     let on = past c.args.section.now (string_bytes c.loop-at.out) inv.0 c.loop-at.at c.in-Ok.extent (inv.1, inside) further (sym read) (sym c.ends_section.ensures ∙ c.if-ends_section.false) in
-    (on.0, on.1, rw c.in_ok-push_entry.ensures.appended (on.2 ∙ inv.2), c.push_entry.ensures.kept)
+    (on.0, on.1, rw c.in_ok-push_entry.ensures.appended (on.2 ∙ inv.2), c.push_entry.ensures.kept ∙ inv.3)
 
 pub returns-in_default : goal.returns-in_default
 returns-in_default c =
