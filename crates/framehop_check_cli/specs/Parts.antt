@@ -3,7 +3,8 @@ use Rattle.std.specs.Prelude.{ℕ, ◌+◌, Bool, not, ◌&&◌, codes, List, []
 use Rattle.std.specs.Io.Iter.{u64_saturate}
 use Rattle.framehop_cfi.specs.declared.entry.UnwindSectionType.{UnwindSectionType}
 use Rattle.framehop_cfi.specs.declared.entry.UnwindSectionType.TheVariants.{EhFrame, DebugFrame}
-use Rattle.framehop_elf.specs.Section.{section_called, contents_of}
+use Rattle.framehop_elf.specs.ElfFile.{ElfFile, section_called}
+use Rattle.framehop_elf.specs.Section.{contents_of}
 use Rattle.framehop_elf.specs.declared.error.ElfError.{ElfError}
 use Rattle.framehop_elf.specs.declared.section_header.SectionHeader.{SectionHeader}
 use Rattle.framehop_elf.specs.declared.symbol.Symbol.{Symbol}
@@ -17,18 +18,16 @@ abbrev pub eh_frame_or : Option SectionHeader → Option SectionHeader → Optio
 eh_frame_or (Some section) other = Some (section, EhFrame)
 eh_frame_or None other = option_map (λ section. (section, DebugFrame)) other
 
-abbrev pub rows_section : List SectionHeader → List ℕ → Option (SectionHeader × UnwindSectionType)
-rows_section sections names =
-    eh_frame_or (section_called sections names (codes ".eh_frame")) (section_called sections names (codes ".debug_frame"))
+abbrev pub rows_section : ElfFile → Option (SectionHeader × UnwindSectionType)
+rows_section elf = eh_frame_or (section_called elf (codes ".eh_frame")) (section_called elf (codes ".debug_frame"))
 
 -- symbols are in `.symtab`, or else in `.dynsym`
 abbrev pub one_or : Option SectionHeader → Option SectionHeader → Option SectionHeader
 one_or (Some section) other = Some section
 one_or None other = other
 
-abbrev pub symbol_section : List SectionHeader → List ℕ → Option SectionHeader
-symbol_section sections names =
-    one_or (section_called sections names (codes ".symtab")) (section_called sections names (codes ".dynsym"))
+abbrev pub symbol_section : ElfFile → Option SectionHeader
+symbol_section elf = one_or (section_called elf (codes ".symtab")) (section_called elf (codes ".dynsym"))
 
 -- the addresses of a function
 abbrev pub range_of_symbol : Symbol → Range

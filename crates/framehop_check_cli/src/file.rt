@@ -20,10 +20,9 @@ use framehop_code::aarch64::CodeAarch64;
 use framehop_code::effect::Code;
 use framehop_code::x86_64::CodeX86_64;
 use framehop_elf::decompressed::{ContentsError, read_decompressed};
+use framehop_elf::elf_file::ElfFile;
 use framehop_elf::error::ElfError;
-use framehop_elf::header::{EM_AARCH64, EM_X86_64, read_file_header};
-use framehop_elf::section::read_section_names;
-use framehop_elf::section_header::{SectionHeader, read_section_headers};
+use framehop_elf::header::{EM_AARCH64, EM_X86_64};
 use framehop_elf::symbol::{Symbol, SymbolTable, read_function_symbols, read_symbol_names};
 use framehop_pe_file::error::PeError;
 use std::alloc::{AllocError, Global};
@@ -190,28 +189,19 @@ impl Rows {
 
 /// Reads what a file has to be checked by.
 pub fn open(alloc: Global, file: &[u8]) -> Result<Opened<'_>, Refusal> {
-    let header = read_file_header(file)?;
-    let sections = read_section_headers(alloc, file, header)?;
-    let names = read_section_names(file, header, sections.as_slice())?;
-    let parts = read_parts(alloc, file, sections.as_slice(), names)?;
-    let rows = read_rows(alloc, file, sections.as_slice(), names)?;
+    let elf = ElfFile::read(alloc, file)?;
     Ok(Opened {
-        machine: header.e_machine,
-        parts,
-        rows,
+        machine: elf.header().e_machine,
+        parts: read_parts(alloc, &elf)?,
+        rows: read_rows(alloc, &elf)?,
     })
 }
 
 /// Reads the code and the symbols of a file.
-fn read_parts<'a>(
-    alloc: Global,
-    file: &'a [u8],
-    sections: &[SectionHeader],
-    names: &[u8],
-) -> Result<Parts<'a>, ElfError> {
-    let (symbols, strings) = read_symbols(alloc, file, sections, names)?;
+fn read_parts<'a>(alloc: Global, elf: &ElfFile<'a>) -> Result<Parts<'a>, ElfError> {
+    let (symbols, strings) = read_symbols(alloc, elf)?;
     Ok(Parts {
-        code: CodeSections::new(code_of(alloc, file, sections)?)?,
+        code: CodeSections::new(code_of(alloc, elf.bytes(), elf.sections())?)?,
         functions: function_ranges(alloc, &symbols)?,
         symbols: SymbolTable::new(symbols)?,
         strings,
@@ -219,17 +209,12 @@ fn read_parts<'a>(
 }
 
 /// Reads the section that has the rows, if there is one.
-fn read_rows(
-    alloc: Global,
-    file: &[u8],
-    sections: &[SectionHeader],
-    names: &[u8],
-) -> Result<Option<Rows>, Refusal> {
-    let Some((section, kind)) = rows_section(sections, names) else {
+fn read_rows(alloc: Global, elf: &ElfFile<'_>) -> Result<Option<Rows>, Refusal> {
+    let Some((section, kind)) = rows_section(elf) else {
         return Ok(None);
     };
     Ok(Some(Rows {
-        contents: read_decompressed(alloc, file, section)?,
+        contents: read_decompressed(alloc, elf.bytes(), section)?,
         address: section.sh_addr,
         kind,
     }))
@@ -313,16 +298,11 @@ fn is_good(counts: Counts, others: Others) -> bool
 }
 
 /// Returns the symbols of a file's functions, and their names.
-fn read_symbols<'a>(
-    alloc: Global,
-    file: &'a [u8],
-    sections: &[SectionHeader],
-    names: &[u8],
-) -> Result<(Vec<Symbol>, &'a [u8]), ElfError> {
-    match symbol_section(sections, names) {
+fn read_symbols<'a>(alloc: Global, elf: &ElfFile<'a>) -> Result<(Vec<Symbol>, &'a [u8]), ElfError> {
+    match symbol_section(elf) {
         Some(table) => {
-            let symbols = read_function_symbols(alloc, file, sections, table)?;
-            let strings = read_symbol_names(file, sections, table)?;
+            let symbols = read_function_symbols(alloc, elf, table)?;
+            let strings = read_symbol_names(elf, table)?;
             Ok((symbols, strings))
         }
         None => Ok((Vec::new(alloc), &[])),

@@ -5,37 +5,32 @@ ghost use Rattle.framehop_check_cli.specs.Parts.{rows_section, symbol_section, r
 use framehop_cfi::entry::UnwindSectionType;
 use framehop_check::missing::Range;
 use framehop_check::sections::CodeSection;
-use framehop_elf::section::{read_contents, section_by_name};
+use framehop_elf::elf_file::ElfFile;
+use framehop_elf::section::{SHF_EXECINSTR, read_contents};
 use framehop_elf::section_header::SectionHeader;
 use framehop_elf::symbol::Symbol;
 use std::alloc::{AllocError, Global};
 
-/// `SHF_EXECINSTR`.
-const SHF_EXECINSTR: u64 = 4;
-
 /// Returns the section that has the rows, `.eh_frame` or else `.debug_frame`, and its kind.
-pub fn rows_section(
-    sections: &[SectionHeader],
-    names: &[u8],
-) -> Option<(SectionHeader, UnwindSectionType)>
-    ensures { result ≡ rows_section sections.now names.now }
+pub fn rows_section(elf: &ElfFile<'_>) -> Option<(SectionHeader, UnwindSectionType)>
+    ensures { result ≡ rows_section elf.now }
 {
-    match section_by_name(sections, names, b".eh_frame") {
+    match elf.section(b".eh_frame") {
         Some(section) => Some((section, UnwindSectionType::EhFrame)),
         None => {
-            let section = section_by_name(sections, names, b".debug_frame")?;
+            let section = elf.section(b".debug_frame")?;
             Some((section, UnwindSectionType::DebugFrame))
         }
     }
 }
 
 /// Returns the section that has the symbols: `.symtab`, or else `.dynsym`.
-pub fn symbol_section(sections: &[SectionHeader], names: &[u8]) -> Option<SectionHeader>
-    ensures { result ≡ symbol_section sections.now names.now }
+pub fn symbol_section(elf: &ElfFile<'_>) -> Option<SectionHeader>
+    ensures { result ≡ symbol_section elf.now }
 {
-    match section_by_name(sections, names, b".symtab") {
+    match elf.section(b".symtab") {
         Some(table) => Some(table),
-        None => section_by_name(sections, names, b".dynsym"),
+        None => elf.section(b".dynsym"),
     }
 }
 

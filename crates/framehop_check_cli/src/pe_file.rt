@@ -6,10 +6,9 @@ use framehop_check::room::Room;
 use framehop_code::x86_64::CodeX86_64;
 use framehop_pe::unwind_info::function_table::RuntimeFunction;
 use framehop_pe::unwind_info::info::{PrologInfo, UnwindInfo, skip_bytes};
-use framehop_pe_file::error::PeError;
-use framehop_pe_file::header::{FileHeader, Machine, read_file_header};
+use framehop_pe_file::header::Machine;
+use framehop_pe_file::pe_file::PeFile;
 use framehop_pe_file::rva::read_at_rva;
-use framehop_pe_file::section_header::{SectionHeader, read_section_headers};
 use framehop_pe_file::unwind_sections::lend_unwind_sections;
 use std::alloc::{AllocError, Global};
 
@@ -19,24 +18,6 @@ const ENTRY_SIZE: usize = 12;
 /// The size of the header of unwind info, in bytes.
 const HEADER_SIZE: u32 = 4;
 
-/// `IMAGE_DOS_SIGNATURE`.
-const MZ: [u8; 2] = [0x4d, 0x5a];
-
-/// The parts of a file that are needed.
-#[derive(Drop)]
-struct Image<'a> {
-    file: &'a [u8],
-    header: FileHeader,
-    sections: Vec<SectionHeader>,
-    /// The function table.
-    table: Option<&'a [u8]>,
-}
-
-/// Returns whether a file begins as a PE file does.
-pub fn is_pe(file: &[u8]) -> bool {
-    file.starts_with(&MZ)
-}
-
 /// Returns the lines for a PE file, and whether there are no alarms and each entry was read, or why it can't be checked.
 pub fn check_pe_file(
     alloc: Global,
@@ -44,11 +25,11 @@ pub fn check_pe_file(
     file: &[u8],
     options: Options,
 ) -> Result<Checked, AllocError> {
-    match open(alloc, file) {
-        Ok(image) if !matches!(image.header.machine, Machine::X86_64) => {
+    match PeFile::read(alloc, file) {
+        Ok(image) if !matches!(image.header().machine, Machine::X86_64) => {
             Ok(Checked::Refused(Refusal::PeMachine))
         }
-        Ok(image) => match image.table {
+        Ok(image) => match lend_unwind_sections(&image).pdata {
             Some(table) => check_image(alloc, path, &image, table, options),
             None => Ok(Checked::Refused(Refusal::NoFunctionTable)),
         },
@@ -60,7 +41,7 @@ pub fn check_pe_file(
 fn check_image(
     alloc: Global,
     path: &str,
-    image: &Image<'_>,
+    image: &PeFile<'_>,
     table: &[u8],
     options: Options,
 ) -> Result<Checked, AllocError> {
@@ -71,7 +52,7 @@ fn check_image(
 
 /// Checks the entries of a function table.
 fn check_table(
-    image: &Image<'_>,
+    image: &PeFile<'_>,
     table: &[u8],
     options: Options,
     findings: &mut Findings,
@@ -86,22 +67,9 @@ fn check_table(
     Ok(())
 }
 
-/// Reads what a file has to be checked by.
-fn open(alloc: Global, file: &[u8]) -> Result<Image<'_>, PeError> {
-    let header = read_file_header(file)?;
-    let sections = read_section_headers(alloc, file, header)?;
-    let table = lend_unwind_sections(file, header, sections.as_slice()).pdata;
-    Ok(Image {
-        file,
-        header,
-        sections,
-        table,
-    })
-}
-
 /// Checks an entry of the function table, and appends its lines.
 fn check_entry(
-    image: &Image<'_>,
+    image: &PeFile<'_>,
     function: RuntimeFunction,
     options: Options,
     findings: &mut Findings,
@@ -115,7 +83,7 @@ fn check_entry(
         return Ok(());
     };
     let begin = image
-        .header
+        .header()
         .image_base
         .saturating_add(u64::from(function.begin_address));
     findings.report.alarms.clear();
@@ -146,7 +114,7 @@ fn push_lines(
 }
 
 /// Returns the unwind info at an RVA: its header, its codes, and the entry that it is chained to.
-fn info_at<'a>(image: &Image<'a>, rva: u32) -> Option<PrologInfo<'a>> {
+fn info_at<'a>(image: &PeFile<'a>, rva: u32) -> Option<PrologInfo<'a>> {
     let head = UnwindInfo::parse(bytes_at(image, rva, HEADER_SIZE)?)?;
     let slots = u32::from(head.code_count) + u32::from(head.code_count % 2);
     let chained = if head.is_chained {
@@ -158,20 +126,14 @@ fn info_at<'a>(image: &Image<'a>, rva: u32) -> Option<PrologInfo<'a>> {
 }
 
 /// Returns the code of a function.
-fn code_of<'a>(image: &Image<'a>, function: RuntimeFunction) -> Option<&'a [u8]> {
+fn code_of<'a>(image: &PeFile<'a>, function: RuntimeFunction) -> Option<&'a [u8]> {
     let size = function.end_address.checked_sub(function.begin_address)?;
     bytes_at(image, function.begin_address, size)
 }
 
 /// Returns so many bytes of the image from an RVA on, if the file has them.
-fn bytes_at<'a>(image: &Image<'a>, rva: u32, size: u32) -> Option<&'a [u8]> {
-    match read_at_rva(
-        image.file,
-        image.header,
-        image.sections.as_slice(),
-        rva,
-        size,
-    ) {
+fn bytes_at<'a>(image: &PeFile<'a>, rva: u32, size: u32) -> Option<&'a [u8]> {
+    match read_at_rva(image, rva, size) {
         Ok(bytes) => Some(bytes),
         Err(_) => None,
     }

@@ -1,11 +1,11 @@
 //! Core files of which only parts are read: the headers and the notes, and of memory what is asked for.
 use crate::input::{read_at, read_front, zeros};
-use crate::object_parts::{ELF_HEADER_SIZE, PROGRAM_HEADER_SIZE, write_u64};
+use crate::object_parts::write_u64;
 use framehop_coredump::core_file::read_core_file;
 use framehop_coredump::mapped_file::{MappedFile, read_mapped_files};
 use framehop_coredump::note::read_notes;
-use framehop_elf::header::read_file_header;
-use framehop_elf::program_header::{PT_NOTE, ProgramHeader};
+use framehop_elf::header::{HEADER_SIZE, read_file_header};
+use framehop_elf::program_header::{ENTRY_SIZE as PROGRAM_HEADER_SIZE, PT_NOTE, ProgramHeader};
 use framehop_elf::segment::loaded_segments;
 use framehop_memory::left_out::ReadPart;
 use framehop_memory::memory::MemoryRange;
@@ -96,7 +96,7 @@ impl CoreParts {
     /// does not lie in the file, and of one that has too many bytes of headers and notes: such a file is read whole.
     pub fn open(rt: &HostRuntime, path: &str) -> io::Result<Option<CoreParts>> {
         let metadata = fs::metadata(rt, path)?;
-        if !metadata.is_file() || metadata.len() < ELF_HEADER_SIZE {
+        if !metadata.is_file() || metadata.len() < HEADER_SIZE {
             return Ok(None);
         }
         let file = File::open(rt, path)?;
@@ -252,7 +252,7 @@ fn read_front_of_core(alloc: Global, file: &mut File, size: u64) -> io::Result<O
 
 /// Returns where the program headers of a core file end, if they are in its first bytes, of which there are at most so many.
 fn read_headers_end(alloc: Global, file: &mut File, most: u64) -> io::Result<Option<u64>> {
-    let header = read_at(alloc, file, 0, ELF_HEADER_SIZE)?;
+    let header = read_at(alloc, file, 0, HEADER_SIZE)?;
     Ok(headers_end(header.as_slice(), most))
 }
 
@@ -280,10 +280,10 @@ fn wanted_segments(
 /// Returns where the program headers of a core file end, if they are in its first bytes, of which there are at most so many.
 fn headers_end(header: &[u8], most: u64) -> Option<u64> {
     let header = read_file_header(header).ok()?;
-    let size = PROGRAM_HEADER_SIZE * u64::from(header.e_phnum);
+    let size = PROGRAM_HEADER_SIZE as u64 * u64::from(header.e_phnum);
     let end = header.e_phoff.checked_add(size)?;
     if end <= most {
-        Some(end.max(ELF_HEADER_SIZE))
+        Some(end.max(HEADER_SIZE))
     } else {
         None
     }
@@ -306,7 +306,7 @@ fn add_notes(
         if header.p_type == PT_NOTE && !add_note(alloc, file, header, most, place, front)? {
             return Ok(false);
         }
-        place = place.saturating_add(PROGRAM_HEADER_SIZE);
+        place = place.saturating_add(PROGRAM_HEADER_SIZE as u64);
     }
     Ok(true)
 }

@@ -1,10 +1,16 @@
 //! Mapped files without the sections of which neither unwinding nor names ask for a byte: most of a file that was built for
 //! debugging.
 use crate::input::{read_at, read_front, read_sized, zeros};
-use framehop_elf::header::{FileHeader, read_file_header};
-use framehop_elf::program_header::{PT_NOTE, ProgramHeader, read_program_headers};
-use framehop_elf::section::SHT_NOBITS;
-use framehop_elf::section_header::{SectionHeader, read_section_headers};
+use framehop_elf::header::{FileHeader, HEADER_SIZE, read_file_header};
+use framehop_elf::program_header::{
+    ENTRY_SIZE as PROGRAM_HEADER_SIZE, PT_NOTE, ProgramHeader, read_program_headers,
+};
+use framehop_elf::section::{SHF_EXECINSTR, SHT_NOBITS};
+use framehop_elf::section_header::{
+    ENTRY_SIZE as SECTION_HEADER_SIZE, SectionHeader, read_section_headers,
+};
+use framehop_elf::segment::PF_X;
+use framehop_pe_file::header::is_pe;
 use framehop_symbols::object_file::build_id_of;
 use std::alloc::Global;
 use std::fs::File;
@@ -16,17 +22,8 @@ const SMALLEST: u64 = 0x10_0000;
 /// The most bytes of names of sections that are read apart: 16 MiB.
 const LARGEST_NAMES: u64 = 0x100_0000;
 
-/// The size of an ELF header, in bytes.
-pub(crate) const ELF_HEADER_SIZE: u64 = 64;
-
 /// The offset of `e_shoff` in an ELF header, in bytes.
 const E_SHOFF: u64 = 40;
-
-/// The size of a program header, in bytes.
-pub(crate) const PROGRAM_HEADER_SIZE: u64 = 56;
-
-/// The size of a section header, in bytes.
-const SECTION_HEADER_SIZE: u64 = 64;
 
 /// The offset of `sh_offset` in a section header, in bytes.
 const SH_OFFSET: u64 = 24;
@@ -36,12 +33,6 @@ const SH_SIZE: u64 = 32;
 
 /// `SHT_PROGBITS`.
 const SHT_PROGBITS: u32 = 1;
-
-/// `SHF_EXECINSTR`.
-const SHF_EXECINSTR: u64 = 4;
-
-/// `PF_X`.
-const PF_X: u32 = 1;
 
 /// A part of a file that is left out.
 #[derive(Clone, Copy)]
@@ -71,7 +62,7 @@ struct Sections {
 pub(crate) fn read_object(rt: &HostRuntime, path: &str, size: u64) -> io::Result<Vec<u8>> {
     if size >= SMALLEST {
         let mut file = File::open(rt, path)?;
-        let front = read_at(rt.alloc(), &mut file, 0, ELF_HEADER_SIZE)?;
+        let front = read_at(rt.alloc(), &mut file, 0, HEADER_SIZE)?;
         if !is_object(front.as_slice()) {
             return Ok(front);
         }
@@ -84,7 +75,7 @@ pub(crate) fn read_object(rt: &HostRuntime, path: &str, size: u64) -> io::Result
 
 /// Returns whether a file may be an ELF or a PE file, by its first bytes.
 fn is_object(front: &[u8]) -> bool {
-    front.starts_with(b"\x7fELF") || front.starts_with(b"MZ")
+    front.starts_with(b"\x7fELF") || is_pe(front)
 }
 
 /// Reads an ELF file of a size without the sections that nothing asks for. `None` of what is to be read whole.
@@ -100,7 +91,7 @@ fn read_asked_sections(alloc: Global, file: &mut File, size: u64) -> io::Result<
 
 /// Reads the header of an ELF file.
 fn read_header(alloc: Global, file: &mut File) -> io::Result<Option<FileHeader>> {
-    let front = read_at(alloc, file, 0, ELF_HEADER_SIZE)?;
+    let front = read_at(alloc, file, 0, HEADER_SIZE)?;
     Ok(read_file_header(front.as_slice()).ok())
 }
 
@@ -207,8 +198,8 @@ fn unasked_parts(
 /// Returns the offset at which a file's program headers, its code and its notes end. `None` where the program headers are not
 /// in its first MiB, or can't be read.
 fn code_end(alloc: Global, file: &mut File, header: FileHeader) -> io::Result<Option<u64>> {
-    let size = PROGRAM_HEADER_SIZE * u64::from(header.e_phnum);
-    let end = header.e_phoff.saturating_add(size).max(ELF_HEADER_SIZE);
+    let size = PROGRAM_HEADER_SIZE as u64 * u64::from(header.e_phnum);
+    let end = header.e_phoff.saturating_add(size).max(HEADER_SIZE);
     if end > SMALLEST {
         return Ok(None);
     }
@@ -238,17 +229,17 @@ fn read_headers(
     size: u64,
 ) -> io::Result<Option<Vec<SectionHeader>>> {
     let end = header.e_shoff.saturating_add(headers_size(header));
-    if header.e_shoff < ELF_HEADER_SIZE || header.e_shnum == 0 || end > size {
+    if header.e_shoff < HEADER_SIZE || header.e_shnum == 0 || end > size {
         return Ok(None);
     }
     let table = read_at(
         alloc,
         file,
-        header.e_shoff - ELF_HEADER_SIZE,
-        end - header.e_shoff + ELF_HEADER_SIZE,
+        header.e_shoff - HEADER_SIZE,
+        end - header.e_shoff + HEADER_SIZE,
     )?;
     let here = FileHeader {
-        e_shoff: ELF_HEADER_SIZE,
+        e_shoff: HEADER_SIZE,
         ..header
     };
     Ok(read_section_headers(alloc, table.as_slice(), here).ok())
@@ -256,7 +247,7 @@ fn read_headers(
 
 /// Returns the size of the section headers of a file, in bytes.
 fn headers_size(header: FileHeader) -> u64 {
-    SECTION_HEADER_SIZE * u64::from(header.e_shnum)
+    SECTION_HEADER_SIZE as u64 * u64::from(header.e_shnum)
 }
 
 /// Returns whether a file of a size has all bytes of a section.
@@ -343,7 +334,7 @@ fn move_sections(bytes: &mut [u8], sections: &Sections) {
         {
             write_u64(bytes, place.saturating_add(SH_SIZE), 0);
         }
-        place = place.saturating_add(SECTION_HEADER_SIZE);
+        place = place.saturating_add(SECTION_HEADER_SIZE as u64);
     }
 }
 

@@ -1,8 +1,7 @@
 -- The mapped code and the threads of a process one after another.
 use Rattle.std.proofs.Common.{◌≡◌, ℕ, ◌+◌, ◌<◌, List, [], ◌∷◌, ◌++◌, map, take, drop, length, get_or, subst, ap, sym, ◌∙◌}
-use Rattle.std.specs.List.{flat_map, sum_by}
+use Rattle.std.specs.List.{flat_map}
 use Rattle.std.proofs.lemmas.List.{at_drop_more, flat_map_more, take_more, map-append}
-use Rattle.std.proofs.lemmas.List.Sums.{sum_by_more}
 use Rattle.framehop_dump_stacks.specs.Dump.{mapped_code_view}
 use Rattle.framehop_dump_stacks.specs.declared.dump.MappedCode.{MappedCode}
 
@@ -20,11 +19,3 @@ text-next text items all same i d within old new so_far is =
     is ∙ ap (λ before. before ++ text (get_or items i d)) so_far
     ∙ subst (λ list. flat_map text (take i list) ++ text (get_or items i d) ≡ flat_map text (take (i + 1) list)) same
     (flat_map_more text [] (take i items) (get_or items i d) ∙ ap (flat_map text) (sym (take_more items i d within)))
-
--- what the next one counts for is added to the sum of those before
-pub sum-next : {X : Type 0} (count : X → ℕ) (items all : List X) → items ≡ all → (i : ℕ) (d : X) → i < length items
-    → (old new : ℕ) → old ≡ sum_by count (take i all) → new ≡ old + count (get_or items i d) → new ≡ sum_by count (take (i + 1) all)
-sum-next count items all same i d within old new so_far is =
-    is ∙ ap (λ before. before + count (get_or items i d)) so_far
-    ∙ subst (λ list. sum_by count (take i list) + count (get_or items i d) ≡ sum_by count (take (i + 1) list)) same
-    (sym (sum_by_more count items i d within))

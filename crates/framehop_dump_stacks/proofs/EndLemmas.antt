@@ -1,5 +1,5 @@
 -- Results that are errors, and results that are not.
-use Rattle.std.proofs.Common.{◌≡◌, ◌∙◌, ◌||◌, ℕ, Bool, true, false, refl, Result, Ok, Err, IfErr, ap, sym, subst, arith}
+use Rattle.std.proofs.Common.{◌≡◌, ◌∙◌, ℕ, Bool, true, false, refl, Result, Ok, Err, IfErr, ap, sym, subst}
 use Rattle.std.specs.Result.{IsErrAnd}
 use Rattle.framehop_dump_stacks.specs.Ended.{MayEnd}
 use Rattle.framehop_dump_stacks.specs.declared.error.DumpStacksError.{DumpStacksError}
@@ -18,15 +18,6 @@ value_or other (Err error) = other
 pub ok-same : {A E : Type 0} (read : Result A E) (first second : A) → read ≡ Ok first → read ≡ Ok second → first ≡ second
 ok-same read first second one two = ap (value_or first) (sym one ∙ two)
 
--- where no generation is drawn, an error is also one where more are, and where a write has failed or not
-pub may-end-more : (failed : Bool) (drawn : ℕ) (error : DumpStacksError) → MayEnd failed 0 error → MayEnd failed drawn error
-may-end-more failed drawn OutOfMemory may = may
-may-end-more failed drawn CannotWrite may = may
-may-end-more failed drawn GenerationsExhausted may = absurd (omega (arith, may))
-may-end-more failed drawn EmptyMapping may = may
-may-end-more failed drawn (Core refusal) may = may
-may-end-more failed drawn (Minidump refusal) may = may
-
 -- one where no write has failed is also one where some may have
 pub may-end-failed : (failed : Bool) (drawn : ℕ) (error : DumpStacksError) → MayEnd false drawn error → MayEnd failed drawn error
 may-end-failed failed drawn OutOfMemory may = may
@@ -36,21 +27,3 @@ may-end-failed failed drawn GenerationsExhausted may = may
 may-end-failed failed drawn EmptyMapping may = may
 may-end-failed failed drawn (Core refusal) may = may
 may-end-failed failed drawn (Minidump refusal) may = may
-
--- a write to one of two outputs has failed
-pub failed-first : (out err : Bool) (drawn : ℕ) (error : DumpStacksError) → MayEnd out drawn error → MayEnd (out || err) drawn error
-failed-first out err drawn OutOfMemory may = may
-failed-first out err drawn CannotWrite may = ap (λ failed. failed || err) may
-failed-first out err drawn GenerationsExhausted may = may
-failed-first out err drawn EmptyMapping may = may
-failed-first out err drawn (Core refusal) may = may
-failed-first out err drawn (Minidump refusal) may = may
-
-pub failed-second : (out err : Bool) (drawn : ℕ) (error : DumpStacksError) → MayEnd err drawn error → MayEnd (out || err) drawn error
-failed-second out err drawn OutOfMemory may = may
-failed-second true err drawn CannotWrite may = refl
-failed-second false err drawn CannotWrite may = may
-failed-second out err drawn GenerationsExhausted may = may
-failed-second out err drawn EmptyMapping may = may
-failed-second out err drawn (Core refusal) may = may
-failed-second out err drawn (Minidump refusal) may = may

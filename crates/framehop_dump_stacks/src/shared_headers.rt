@@ -13,14 +13,11 @@ use crate::image::{head_at, segments_in};
 use crate::minidump::LoadedModule;
 use framehop_coredump::error::CoreFileError;
 use framehop_coredump::mapped_file::MappedFile;
-use framehop_elf::program_header::{PT_NOTE, ProgramHeader};
+use framehop_elf::program_header::{ENTRY_SIZE as PROGRAM_HEADER_SIZE, PT_NOTE, ProgramHeader};
 use framehop_elf::segment::read_segment;
 use framehop_memory::memory::ProcessMemory;
 use framehop_minidump::error::MinidumpError;
 use std::alloc::{AllocError, Global};
-
-/// The size of a program header, in bytes.
-const PROGRAM_HEADER_SIZE: usize = 56;
 
 /// Refuses mapped files whose first bytes tell of more program headers and notes than memory has bytes.
 ///

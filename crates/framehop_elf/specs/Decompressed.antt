@@ -1,5 +1,5 @@
 -- What sections hold that may be compressed (gABI, chapter 4, "Section Compression").
-use Rattle.std.specs.Prelude.{◌≡◌, ℕ, List, length, Bool, true, false, not, ◌&&◌, ◌==◌, nat_lt, bit_and, if◌then◌else◌, Option, Some, None, Result, Ok, Err}
+use Rattle.std.specs.Prelude.{ℕ, List, length, Bool, true, false, not, ◌&&◌, ◌==◌, nat_lt, bit_and, if◌then◌else◌, Option, Some, None, Result, Err}
 use Rattle.std.specs.Result.{result_map_both}
 use Rattle.framehop_bytes.specs.Bytes.{◌>>=◌, le4, le8}
 use Rattle.framehop_elf.specs.Numbers.{SHT_NOBITS, SHF_COMPRESSED, ELFCOMPRESS_ZLIB, ELFCOMPRESS_ZSTD}

@@ -7,6 +7,7 @@ pub mod Header
 pub mod SectionHeader
 pub mod ProgramHeader
 pub mod Section
+pub mod ElfFile
 pub mod Segment
 pub mod Note
 pub mod BuildId

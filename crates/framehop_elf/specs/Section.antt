@@ -1,10 +1,8 @@
--- What sections hold, and what they are called (gABI, chapter 4, "Sections" and "String Table").
+-- What sections hold, and where their names are (gABI, chapter 4, "Sections" and "String Table").
 -- Which section has the names: "ELF Header", e_shstrndx.
-use Rattle.std.specs.Prelude.{ℕ, List, [], Option, Some, None, bit_and, not, nat_eq, Result, Ok, Err, ◌==◌, if◌then◌else◌}
-use Rattle.std.specs.List.{find, slice_get}
-use Rattle.std.specs.Cmp.Lexicographic.{pointwise}
+use Rattle.std.specs.Prelude.{ℕ, List, [], Option, Some, None, bit_and, not, Result, Ok, Err, ◌==◌, if◌then◌else◌}
+use Rattle.std.specs.List.{slice_get}
 use Rattle.framehop_bytes.specs.Bytes.{◌>>=◌}
-use Rattle.framehop_bytes.specs.String.{string_of}
 use Rattle.framehop_elf.specs.Numbers.{SHN_UNDEF, SHN_XINDEX, SHT_NOBITS, SHF_COMPRESSED}
 use Rattle.framehop_elf.specs.Block.{block_at}
 use Rattle.framehop_elf.specs.SectionHeader.{first_section_of}
@@ -42,7 +40,3 @@ unfoldable pub section_names_of : List ℕ → FileHeader → List SectionHeader
 section_names_of file header sections = do
   index ← names_index_of file header
   if index == SHN_UNDEF then Ok [] else names_in file (slice_get sections index)
-
--- the first section of a name
-abbrev pub section_called : List SectionHeader → List ℕ → List ℕ → Option SectionHeader
-section_called sections names name = find (λ section. pointwise nat_eq (string_of names section.sh_name) name) sections

@@ -7,7 +7,8 @@ use Rattle.std.specs.declared.ops.Range.{Range}
 use Rattle.framehop_bytes.specs.declared.section.ExplicitModuleSectionInfo.{ExplicitModuleSectionInfo}
 use Rattle.framehop_elf.specs.Decompressed.{decompressed_of}
 use Rattle.framehop_elf.specs.Numbers.{SHT_NOBITS}
-use Rattle.framehop_elf.specs.Section.{contents_of, section_called}
+use Rattle.framehop_elf.specs.ElfFile.{ElfFile, section_called}
+use Rattle.framehop_elf.specs.Section.{contents_of}
 use Rattle.framehop_elf.specs.declared.decompressed.ContentsError.{ContentsError}
 use Rattle.framehop_elf.specs.declared.decompressed.ContentsError.TheVariants.{OlderForm}
 use Rattle.framehop_elf.specs.declared.section_header.SectionHeader.{SectionHeader}
@@ -25,10 +26,10 @@ abbrev pub stored_in : List ℕ → SectionHeader → Option (List ℕ)
 stored_in file section = if section.sh_type == SHT_NOBITS then None else result_ok (contents_of file section)
 
 -- the section of a name, if the file holds it
-abbrev pub stored_called : List ℕ → List SectionHeader → List ℕ → List ℕ → Option Stored
-stored_called file sections names name =
-    option_and_then (λ section. option_map (λ contents. (section, contents)) (stored_in file section))
-    (section_called sections names name)
+abbrev pub stored_called : ElfFile → List ℕ → Option Stored
+stored_called elf name =
+    option_and_then (λ section. option_map (λ contents. (section, contents)) (stored_in elf.bytes section))
+    (section_called elf name)
 
 -- the addresses of a section, and its bytes
 abbrev pub range_of : Option Stored → Option (Range ℕ)
@@ -49,9 +50,9 @@ debug_frame_by file (Some section) older = held_in file section
 debug_frame_by file None (Some older) = Err OlderForm
 debug_frame_by file None None = Ok None
 
-abbrev pub debug_frame_of : List ℕ → List SectionHeader → List ℕ → Result (Option (List ℕ)) ContentsError
-debug_frame_of file sections names =
-    debug_frame_by file (section_called sections names (codes ".debug_frame")) (section_called sections names (codes ".zdebug_frame"))
+abbrev pub debug_frame_of : ElfFile → Result (Option (List ℕ)) ContentsError
+debug_frame_of elf =
+    debug_frame_by elf.bytes (section_called elf (codes ".debug_frame")) (section_called elf (codes ".zdebug_frame"))
 
 -- the bytes, none where they can't be had
 abbrev pub bytes_or_none : Result (Option (List ℕ)) ContentsError → Option (List ℕ)
@@ -60,17 +61,17 @@ bytes_or_none (Err error) = None
 
 -- What an unwinder is to know of a file: where its code and its global offset table are, and the call frame sections that
 -- the file holds, with these bytes of `.debug_frame`. One that is refused counts as absent.
-abbrev pub unwind_sections_of : List ℕ → List SectionHeader → List ℕ → Option (List ℕ) → ExplicitModuleSectionInfo (List ℕ)
-unwind_sections_of file sections names debug_frame =
-    let eh_frame = stored_called file sections names (codes ".eh_frame") in
-    let eh_frame_hdr = stored_called file sections names (codes ".eh_frame_hdr") in
+abbrev pub unwind_sections_of : ElfFile → Option (List ℕ) → ExplicitModuleSectionInfo (List ℕ)
+unwind_sections_of elf debug_frame =
+    let eh_frame = stored_called elf (codes ".eh_frame") in
+    let eh_frame_hdr = stored_called elf (codes ".eh_frame_hdr") in
     record {
       base_svma = 0;
-      text_svma = option_map range_in (section_called sections names (codes ".text"));
+      text_svma = option_map range_in (section_called elf (codes ".text"));
       text = None;
       stubs_svma = None;
       stub_helper_svma = None;
-      got_svma = option_map range_in (section_called sections names (codes ".got"));
+      got_svma = option_map range_in (section_called elf (codes ".got"));
       unwind_info = None;
       eh_frame_svma = range_of eh_frame;
       eh_frame = data_of eh_frame;
@@ -82,18 +83,18 @@ unwind_sections_of file sections names debug_frame =
     }
 
 -- the file holds `.eh_frame`
-abbrev pub has_eh_frame : List ℕ → List SectionHeader → List ℕ → Bool
-has_eh_frame file sections names = is_some (stored_called file sections names (codes ".eh_frame"))
+abbrev pub has_eh_frame : ElfFile → Bool
+has_eh_frame elf = is_some (stored_called elf (codes ".eh_frame"))
 
 -- what it is to know of these bytes of `.debug_frame` only
-abbrev pub debug_frame_sections_of : List SectionHeader → List ℕ → Option (List ℕ) → ExplicitModuleSectionInfo (List ℕ)
-debug_frame_sections_of sections names debug_frame = record {
+abbrev pub debug_frame_sections_of : ElfFile → Option (List ℕ) → ExplicitModuleSectionInfo (List ℕ)
+debug_frame_sections_of elf debug_frame = record {
   base_svma = 0;
-  text_svma = option_map range_in (section_called sections names (codes ".text"));
+  text_svma = option_map range_in (section_called elf (codes ".text"));
   text = None;
   stubs_svma = None;
   stub_helper_svma = None;
-  got_svma = option_map range_in (section_called sections names (codes ".got"));
+  got_svma = option_map range_in (section_called elf (codes ".got"));
   unwind_info = None;
   eh_frame_svma = None;
   eh_frame = None;

@@ -25,7 +25,7 @@ const ELFDATA2LSB: u8 = 1;
 const EV_CURRENT: u8 = 1;
 
 /// The size of the header, in bytes.
-const HEADER_SIZE: u64 = 64;
+pub const HEADER_SIZE: u64 = 64;
 
 /// The ELF header: `Elf64_Ehdr`.
 #[derive(Clone, Copy, Debug, PartialEq, Eq)]

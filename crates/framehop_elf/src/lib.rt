@@ -17,6 +17,7 @@
 mod block;
 pub mod build_id;
 pub mod decompressed;
+pub mod elf_file;
 pub mod error;
 pub mod file_section;
 pub mod header;

@@ -17,7 +17,7 @@ pub const PT_NOTE: u32 = 4;
 const PN_XNUM: u16 = 0xffff;
 
 /// The size of a program header, in bytes.
-const ENTRY_SIZE: usize = 56;
+pub const ENTRY_SIZE: usize = 56;
 
 /// A program header: `Elf64_Phdr`.
 #[derive(Clone, Copy, Debug, PartialEq, Eq)]

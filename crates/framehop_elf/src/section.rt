@@ -1,17 +1,17 @@
-//! What sections hold, and what they are called.
-ghost use Rattle.std.specs.Prelude.{◌≡◌, ◌==◌, Ok, Err, MatchResult, nat_eq};
-ghost use Rattle.std.specs.Cmp.Lexicographic.{pointwise};
-ghost use Rattle.framehop_bytes.specs.String.{before_nul};
-ghost use Rattle.framehop_elf.specs.Section.{size_in_file, contents_of, names_index_of, section_names_of, section_called};
+//! What sections hold, and where their names are.
+ghost use Rattle.std.specs.Prelude.{◌≡◌, ◌==◌, Ok, Err, MatchResult};
+ghost use Rattle.framehop_elf.specs.Section.{size_in_file, contents_of, names_index_of, section_names_of};
 
 use crate::block::read_block;
 use crate::error::ElfError;
 use crate::header::FileHeader;
 use crate::section_header::{SectionHeader, read_first_section};
-use framehop_bytes::bytes::back;
 
 /// `SHT_NOBITS`: a section that takes no space in the file.
 pub const SHT_NOBITS: u32 = 8;
+
+/// `SHF_EXECINSTR`: the section has code.
+pub const SHF_EXECINSTR: u64 = 4;
 
 /// `SHF_COMPRESSED`.
 pub(crate) const SHF_COMPRESSED: u64 = 0x800;
@@ -97,35 +97,4 @@ pub fn read_contents<'a>(file: &'a [u8], section: SectionHeader) -> Result<&'a [
         });
     }
     read_block(file, section.sh_offset, section.sh_size)
-}
-
-/// Returns the first section of a name, by the names of the file's sections.
-pub fn section_by_name(
-    sections: &[SectionHeader],
-    names: &[u8],
-    name: &[u8],
-) -> Option<SectionHeader>
-    ensures { result ≡ section_called sections.now names.now name.now }
-{
-    sections
-        .iter()
-        .find(|section| is_string(back(names, u64::from(section.sh_name)), name))
-        .copied()
-}
-
-/// Returns whether the string at the front of bytes, which ends before the first 0 or with the bytes, is a name. It is
-/// read no further than one byte after the length of the name: so a table without a 0 is not read to its end for
-/// each section.
-fn is_string(bytes: &[u8], name: &[u8]) -> bool
-    ensures { result ≡ pointwise nat_eq (before_nul bytes.now) name.now }
-{
-    for index in 0..name.len() {
-        if index >= bytes.len() || bytes[index] != name[index] || bytes[index] == 0 {
-            return false;
-        }
-    }
-    match bytes.get(name.len()) {
-        Some(after) => *after == 0,
-        None => true,
-    }
 }

@@ -10,7 +10,7 @@ use framehop_bytes::bytes::{u32_at, u64_at};
 use std::alloc::{AllocError, Global};
 
 /// The size of a section header, in bytes.
-const ENTRY_SIZE: usize = 64;
+pub const ENTRY_SIZE: usize = 64;
 
 /// A section header: `Elf64_Shdr`.
 #[derive(Clone, Copy, Debug, PartialEq, Eq)]

@@ -13,7 +13,7 @@ use std::alloc::{AllocError, Global};
 const PT_LOAD: u32 = 1;
 
 /// `PF_X`: the segment may be executed.
-const PF_X: u32 = 1;
+pub const PF_X: u32 = 1;
 
 /// Returns the bytes that a segment has in the file.
 ///

@@ -5,8 +5,9 @@ ghost use Rattle.std.specs.Ordering.{nat_cmp};
 ghost use Rattle.framehop_elf.specs.Block.{IsErrorOf};
 ghost use Rattle.framehop_elf.specs.Symbol.{symbol_type, is_function, is_code, is_mapping, is_label, size_from, size_of, symbol_of, entries_of, function_symbols_of, labels_of, start_of, nearest_of, reaches, symbol_for, symbol_names_of};
 
+use crate::elf_file::ElfFile;
 use crate::error::ElfError;
-use crate::section::read_contents;
+use crate::section::{SHF_EXECINSTR, read_contents};
 use crate::section_header::SectionHeader;
 use framehop_bytes::bytes::{u16_at, u32_at, u64_at};
 use framehop_bytes::string::string_at;
@@ -24,9 +25,6 @@ const STT_GNU_IFUNC: u8 = 10;
 
 /// `SHN_UNDEF`: the symbol is not defined in the file.
 const SHN_UNDEF: u16 = 0;
-
-/// `SHF_EXECINSTR`: the section has code.
-const SHF_EXECINSTR: u64 = 4;
 
 /// The size of a symbol, in bytes.
 const ENTRY_SIZE: usize = 24;
@@ -64,8 +62,7 @@ impl Model for SymbolTable {
 
 /// Reads the functions among the symbols of a symbol table, a section of type `SHT_SYMTAB` or
 /// `SHT_DYNSYM`, in its order: symbols of type `STT_FUNC` or `STT_GNU_IFUNC` that are defined and whose
-/// value is not 0. Their names are in the section of index `sh_link`. `sections` are those of the file, in
-/// which a symbol without a size ends with its own.
+/// value is not 0. Their names are in the section of index `sh_link`. A symbol without a size ends with its section.
 ///
 /// # Errors
 ///
@@ -77,16 +74,15 @@ impl Model for SymbolTable {
 #[tactic(auto, unfolding(crate::specs::Symbol::function_symbols_of))]
 pub fn read_function_symbols(
     alloc: Global,
-    file: &[u8],
-    sections: &[SectionHeader],
+    elf: &ElfFile<'_>,
     table: SectionHeader,
 ) -> Result<Vec<Symbol>, ElfError>
     ensures { MatchResult result
-        (λ symbols. function_symbols_of file.now sections.now table ≡ Ok symbols.items)
-        (λ error. IsErrorOf (function_symbols_of file.now sections.now table) error) }
+        (λ symbols. function_symbols_of elf.now.bytes elf.now.sections table ≡ Ok symbols.items)
+        (λ error. IsErrorOf (function_symbols_of elf.now.bytes elf.now.sections table) error) }
 {
-    let entries = read_entries(file, table)?;
-    Ok(functions(alloc, sections, entries)?)
+    let entries = read_entries(elf.bytes(), table)?;
+    Ok(functions(alloc, elf.sections(), entries)?)
 }
 
 /// Reads the labels in code among the symbols of a symbol table, in its order: symbols of type `STT_NOTYPE` that have a
@@ -101,17 +97,16 @@ pub fn read_function_symbols(
 #[tactic(auto, unfolding(crate::specs::Symbol::labels_of))]
 pub fn read_labels(
     alloc: Global,
-    file: &[u8],
-    sections: &[SectionHeader],
+    elf: &ElfFile<'_>,
     table: SectionHeader,
     names: &[u8],
 ) -> Result<Vec<Symbol>, ElfError>
     ensures { MatchResult result
-        (λ symbols. labels_of file.now sections.now table names.now ≡ Ok symbols.items)
-        (λ error. IsErrorOf (labels_of file.now sections.now table names.now) error) }
+        (λ symbols. labels_of elf.now.bytes elf.now.sections table names.now ≡ Ok symbols.items)
+        (λ error. IsErrorOf (labels_of elf.now.bytes elf.now.sections table names.now) error) }
 {
-    let entries = read_entries(file, table)?;
-    Ok(labels(alloc, sections, names, entries)?)
+    let entries = read_entries(elf.bytes(), table)?;
+    Ok(labels(alloc, elf.sections(), names, entries)?)
 }
 
 /// Returns the entries of a symbol table.
@@ -252,17 +247,13 @@ fn size_from(address: u64, section: SectionHeader) -> u64
 /// Source: System V gABI, chapter 4, "Symbol Table" and "Sections", `sh_link`.
 ///
 /// [`string_at`]: framehop_bytes::string::string_at
-pub fn read_symbol_names<'a>(
-    file: &'a [u8],
-    sections: &[SectionHeader],
-    table: SectionHeader,
-) -> Result<&'a [u8], ElfError>
+pub fn read_symbol_names<'a>(elf: &ElfFile<'a>, table: SectionHeader) -> Result<&'a [u8], ElfError>
     ensures { MatchResult result
-        (λ names. symbol_names_of file.entry.now sections.now table ≡ Ok names.now)
-        (λ error. symbol_names_of file.entry.now sections.now table ≡ Err error) }
+        (λ names. symbol_names_of elf.entry.now.bytes elf.entry.now.sections table ≡ Ok names.now)
+        (λ error. symbol_names_of elf.entry.now.bytes elf.entry.now.sections table ≡ Err error) }
 {
-    match sections.get(table.sh_link as usize) {
-        Some(section) => read_contents(file, *section),
+    match elf.sections().get(table.sh_link as usize) {
+        Some(section) => elf.contents(*section),
         None => Err(ElfError::NoSuchSection {
             offset: table.sh_offset,
         }),

@@ -1,11 +1,12 @@
 //! The sections of a file that an unwinder needs.
 ghost use Rattle.std.specs.Prelude.{◌≡◌, ◌≢◌, Ok, Err, MatchResult, IfOk, IfErr, option_map};
-ghost use Rattle.framehop_elf.specs.Section.{section_called};
+ghost use Rattle.framehop_elf.specs.ElfFile.{section_called};
 ghost use Rattle.framehop_elf.specs.UnwindSections.{range_in, stored_in, stored_called, range_of, data_of, held_in, debug_frame_of, bytes_or_none, unwind_sections_of, has_eh_frame, debug_frame_sections_of, bytes_in, sections_view};
 
 use crate::decompressed::{ContentsError, read_decompressed};
+use crate::elf_file::ElfFile;
 use crate::error::ElfError;
-use crate::section::{SHT_NOBITS, read_contents, section_by_name};
+use crate::section::{SHT_NOBITS, read_contents};
 use crate::section_header::SectionHeader;
 use framehop_bytes::section::ExplicitModuleSectionInfo;
 use std::alloc::Global;
@@ -30,20 +31,18 @@ struct Stored<'a> {
 /// Source: System V gABI, chapter 4, "Special Sections"; LSB Core, "Exception Frames".
 pub fn read_unwind_sections(
     alloc: Global,
-    file: &[u8],
-    sections: &[SectionHeader],
-    names: &[u8],
+    elf: &ElfFile<'_>,
 ) -> Result<ExplicitModuleSectionInfo<Vec<u8>>, ElfError>
-    ensures exact { IfOk result (λ info. sections_view info ≡ unwind_sections_of file.now sections.now names.now
-        (bytes_or_none (debug_frame_of file.now sections.now names.now))) }
+    ensures exact { IfOk result (λ info. sections_view info ≡ unwind_sections_of elf.now
+        (bytes_or_none (debug_frame_of elf.now))) }
     ensures refused { IfErr result (λ error. error ≡ ElfError.OutOfMemory) }
 {
-    let debug_frame = match read_debug_frame(alloc, file, sections, names) {
+    let debug_frame = match read_debug_frame(alloc, elf) {
         Ok(debug_frame) => debug_frame,
         Err(ContentsError::OutOfMemory) => return Err(ElfError::OutOfMemory),
         Err(_refusal) => None,
     };
-    unwind_sections_with(alloc, file, sections, names, debug_frame)
+    unwind_sections_with(alloc, elf, debug_frame)
 }
 
 /// Returns the same with these bytes of `.debug_frame`, as [`read_debug_frame`] returns them.
@@ -53,48 +52,45 @@ pub fn read_unwind_sections(
 /// `OutOfMemory`.
 pub fn unwind_sections_with(
     alloc: Global,
-    file: &[u8],
-    sections: &[SectionHeader],
-    names: &[u8],
+    elf: &ElfFile<'_>,
     debug_frame: Option<Vec<u8>>,
 ) -> Result<ExplicitModuleSectionInfo<Vec<u8>>, ElfError>
     ensures exact { IfOk result (λ info. sections_view info
-        ≡ unwind_sections_of file.now sections.now names.now (bytes_in debug_frame)) }
+        ≡ unwind_sections_of elf.now (bytes_in debug_frame)) }
     ensures refused { IfErr result (λ error. error ≡ ElfError.OutOfMemory) }
 {
-    let eh_frame = stored_called(file, sections, names, b".eh_frame");
-    let eh_frame_hdr = stored_called(file, sections, names, b".eh_frame_hdr");
+    let eh_frame = stored_called(elf, b".eh_frame");
+    let eh_frame_hdr = stored_called(elf, b".eh_frame_hdr");
     Ok(ExplicitModuleSectionInfo {
         eh_frame_svma: range_of(eh_frame),
         eh_frame: data_of(alloc, eh_frame)?,
         eh_frame_hdr_svma: range_of(eh_frame_hdr),
         eh_frame_hdr: data_of(alloc, eh_frame_hdr)?,
-        ..debug_frame_sections(sections, names, debug_frame)
+        ..debug_frame_sections(elf, debug_frame)
     })
 }
 
 /// Returns what an unwinder needs of the `.debug_frame` of a file: where `.text` and `.got` are, and these bytes, as
 /// [`read_debug_frame`] returns them.
 pub fn debug_frame_sections(
-    sections: &[SectionHeader],
-    names: &[u8],
+    elf: &ElfFile<'_>,
     debug_frame: Option<Vec<u8>>,
 ) -> ExplicitModuleSectionInfo<Vec<u8>>
-    ensures { sections_view result ≡ debug_frame_sections_of sections.now names.now (bytes_in debug_frame) }
+    ensures { sections_view result ≡ debug_frame_sections_of elf.now (bytes_in debug_frame) }
 {
     ExplicitModuleSectionInfo {
-        text_svma: range_called(sections, names, b".text"),
-        got_svma: range_called(sections, names, b".got"),
+        text_svma: range_called(elf, b".text"),
+        got_svma: range_called(elf, b".got"),
         debug_frame,
         ..ExplicitModuleSectionInfo::default()
     }
 }
 
 /// Returns whether a file holds `.eh_frame`.
-pub fn has_eh_frame(file: &[u8], sections: &[SectionHeader], names: &[u8]) -> bool
-    ensures { result ≡ has_eh_frame file.now sections.now names.now }
+pub fn has_eh_frame(elf: &ElfFile<'_>) -> bool
+    ensures { result ≡ has_eh_frame elf.now }
 {
-    stored_called(file, sections, names, b".eh_frame").is_some()
+    stored_called(elf, b".eh_frame").is_some()
 }
 
 /// Returns what the `.debug_frame` of a file holds, decompressed where it is compressed: `None` where the file has none,
@@ -106,21 +102,14 @@ pub fn has_eh_frame(file: &[u8], sections: &[SectionHeader], names: &[u8]) -> bo
 ///
 /// Source: DWARF 5 section 6.4.1, "Structure of Call Frame Information"; GNU binutils,
 /// `--compress-debug-sections=zlib-gnu`.
-pub fn read_debug_frame(
-    alloc: Global,
-    file: &[u8],
-    sections: &[SectionHeader],
-    names: &[u8],
-) -> Result<Option<Vec<u8>>, ContentsError>
+pub fn read_debug_frame(alloc: Global, elf: &ElfFile<'_>) -> Result<Option<Vec<u8>>, ContentsError>
     ensures { MatchResult result
-        (λ bytes. debug_frame_of file.now sections.now names.now ≡ Ok (bytes_in bytes))
-        (λ error. error ≢ ContentsError.OutOfMemory → debug_frame_of file.now sections.now names.now ≡ Err error) }
+        (λ bytes. debug_frame_of elf.now ≡ Ok (bytes_in bytes))
+        (λ error. error ≢ ContentsError.OutOfMemory → debug_frame_of elf.now ≡ Err error) }
 {
-    match section_by_name(sections, names, b".debug_frame") {
-        Some(section) => read_held(alloc, file, section),
-        None if section_by_name(sections, names, b".zdebug_frame").is_some() => {
-            Err(ContentsError::OlderForm)
-        }
+    match elf.section(b".debug_frame") {
+        Some(section) => read_held(alloc, elf.bytes(), section),
+        None if elf.section(b".zdebug_frame").is_some() => { Err(ContentsError::OlderForm) }
         None => Ok(None),
     }
 }
@@ -143,17 +132,12 @@ fn read_held(
 }
 
 /// Returns the section of a name, if the file holds it.
-fn stored_called<'a>(
-    file: &'a [u8],
-    sections: &[SectionHeader],
-    names: &[u8],
-    name: &[u8],
-) -> Option<Stored<'a>>
+fn stored_called<'a>(elf: &ElfFile<'a>, name: &[u8]) -> Option<Stored<'a>>
     ensures { option_map (λ stored. (stored.section, stored.contents.now)) result
-        ≡ stored_called file.entry.now sections.now names.now name.now }
+        ≡ stored_called elf.entry.now name.now }
 {
-    let section = section_by_name(sections, names, name)?;
-    let contents = stored_in(file, section)?;
+    let section = elf.section(name)?;
+    let contents = stored_in(elf.bytes(), section)?;
     Some(Stored { section, contents })
 }
 
@@ -171,10 +155,10 @@ fn stored_in(file: &[u8], section: SectionHeader) -> Option<&[u8]>
 }
 
 /// Returns where the section of a name is (SVMA).
-fn range_called(sections: &[SectionHeader], names: &[u8], name: &[u8]) -> Option<Range<u64>>
-    ensures { result ≡ option_map range_in (section_called sections.now names.now name.now) }
+fn range_called(elf: &ElfFile<'_>, name: &[u8]) -> Option<Range<u64>>
+    ensures { result ≡ option_map range_in (section_called elf.now name.now) }
 {
-    let section = section_by_name(sections, names, name)?;
+    let section = elf.section(name)?;
     Some(range_in(section))
 }
 

@@ -1,19 +1,15 @@
 -- An ELF file or a PE file as it is read: its machine and its unwind data, or why it is not read.
 use Rattle.std.specs.Prelude.{◌≡◌, ℕ, ◌-◌, ◌^◌, ◌==◌, ◌&&◌, not, Bool, true, MatchBool, nat_eq, if◌then◌else◌, List, [], codes, Option, Some, None, Result, Ok, Err}
-use Rattle.std.specs.List.{starts_with}
 use Rattle.framehop_bytes.specs.Bytes.{◌>>=◌}
 use Rattle.framehop_bytes.specs.ExplicitSections.{table_of}
-use Rattle.framehop_elf.specs.Header.{file_header_of}
-use Rattle.framehop_elf.specs.Section.{section_names_of}
-use Rattle.framehop_elf.specs.SectionHeader.{section_headers_of}
+use Rattle.framehop_elf.specs.ElfFile.{ElfFile, elf_file_of}
 use Rattle.framehop_elf.specs.UnwindSections.{has_eh_frame, debug_frame_of, unwind_sections_of}
 use Rattle.framehop_elf.specs.declared.decompressed.ContentsError.{ContentsError}
 use Rattle.framehop_elf.specs.declared.decompressed.ContentsError.TheVariants.{OutOfMemory as NoMemoryForContents}
 use Rattle.framehop_elf.specs.declared.error.ElfError.{ElfError}
 use Rattle.framehop_elf.specs.declared.error.ElfError.TheVariants.{OutOfMemory as NoMemoryForElf}
-use Rattle.framehop_elf.specs.declared.section_header.SectionHeader.{SectionHeader}
-use Rattle.framehop_pe_file.specs.Header.{file_header_of as pe_header_of}
-use Rattle.framehop_pe_file.specs.SectionHeader.{section_headers_of as pe_section_headers_of}
+use Rattle.framehop_pe_file.specs.Header.{is_pe}
+use Rattle.framehop_pe_file.specs.PeFile.{pe_file_of}
 use Rattle.framehop_pe_file.specs.UnwindSections.{unwind_sections_of as pe_sections_of, table_of as pe_table_of}
 use Rattle.framehop_pe_file.specs.declared.error.PeError.{PeError}
 use Rattle.framehop_pe_file.specs.declared.error.PeError.TheVariants.{OutOfMemory as NoMemoryForPe}
@@ -66,33 +62,29 @@ pub record FileView : Type 0 where
   pub unwind_data : UnwindData
 
 -- an ELF file without `.eh_frame` unwinds by its `.debug_frame`
-abbrev pub debug_frame_in : List ℕ → List SectionHeader → List ℕ → Result (Option (List ℕ)) ContentsError
-debug_frame_in file headers names =
-    if has_eh_frame file headers names then Ok None else debug_frame_of file headers names
+abbrev pub debug_frame_in : ElfFile → Result (Option (List ℕ)) ContentsError
+debug_frame_in elf = if has_eh_frame elf then Ok None else debug_frame_of elf
 
 unfoldable pub elf_of : List ℕ → Result FileView FileProblem
 elf_of file =
-    refused_by of_elf (file_header_of file) >>= λ header.
-    refused_by of_elf (section_headers_of file header) >>= λ headers.
-    refused_by of_elf (section_names_of file header headers) >>= λ names.
-    refused_by of_contents (debug_frame_in file headers names) >>= λ debug_frame.
+    refused_by of_elf (elf_file_of file) >>= λ elf.
+    refused_by of_contents (debug_frame_in elf) >>= λ debug_frame.
     Ok (record {
-      machine = header.e_machine;
-      unwind_data = unwind_data_in (λ bytes. bytes) (table_of (unwind_sections_of file headers names debug_frame));
+      machine = elf.header.e_machine;
+      unwind_data = unwind_data_in (λ bytes. bytes) (table_of (unwind_sections_of elf debug_frame));
     })
 
 unfoldable pub pe_of : List ℕ → Result FileView FileProblem
 pe_of file =
-    refused_by of_pe (pe_header_of file) >>= λ header.
-    refused_by of_pe (pe_section_headers_of file header) >>= λ headers.
+    refused_by of_pe (pe_file_of file) >>= λ pe.
     Ok (record {
-      machine = elf_machine header.machine;
-      unwind_data = unwind_data_in (λ bytes. bytes) (pe_table_of (pe_sections_of file header headers));
+      machine = elf_machine pe.header.machine;
+      unwind_data = unwind_data_in (λ bytes. bytes) (pe_table_of (pe_sections_of pe));
     })
 
--- a PE file begins with "MZ" (Microsoft, "PE Format", "MS-DOS Stub")
+-- a PE file, or else an ELF file
 abbrev pub file_of : List ℕ → Result FileView FileProblem
-file_of file = if starts_with nat_eq file (codes "MZ") then pe_of file else elf_of file
+file_of file = if is_pe file then pe_of file else elf_of file
 
 -- registers that are all 0
 abbrev pub zero_aarch64 : RegistersAarch64

@@ -31,10 +31,9 @@ use framehop_cfi::read_error::ReadError;
 use framehop_cfi::storage::StoreOnHeap;
 use framehop_dwarf::unwinder::find_row;
 use framehop_elf::decompressed::ContentsError;
+use framehop_elf::elf_file::ElfFile;
 use framehop_elf::error::ElfError;
-use framehop_elf::header::{EM_AARCH64, EM_X86_64, read_file_header};
-use framehop_elf::section::read_section_names;
-use framehop_elf::section_header::{SectionHeader, read_section_headers};
+use framehop_elf::header::{EM_AARCH64, EM_X86_64};
 use framehop_elf::unwind_sections::{has_eh_frame, read_debug_frame, unwind_sections_with};
 use framehop_explain::explain::explain_module;
 use framehop_explain::pe::Sources;
@@ -45,8 +44,9 @@ use framehop_explain::{
 use framehop_pe::pe::PeUnwinderError;
 use framehop_pe::unwind_info::function_table::RuntimeFunction;
 use framehop_pe_file::error::PeError;
-use framehop_pe_file::header::Machine as PeMachine;
-use framehop_pe_file::{header, section_header, unwind_sections};
+use framehop_pe_file::header::{Machine as PeMachine, is_pe};
+use framehop_pe_file::pe_file::PeFile;
+use framehop_pe_file::unwind_sections::read_unwind_sections as read_pe_sections;
 use std::alloc::{AllocError, Global};
 use thiserror::Error;
 
@@ -175,7 +175,7 @@ fn read_module(alloc: Global, file: &[u8]) -> Result<(u16, Module<Vec<u8>>), Fil
         file_of file.now ≡ Ok (record { machine = read.0; unwind_data = read.1.unwind_data })) }
     ensures refused { IfErr result (λ problem. problem ≢ FileProblem.OutOfMemory → file_of file.now ≡ Err problem) }
 {
-    if file.starts_with(b"MZ") {
+    if is_pe(file) {
         return read_pe(alloc, file);
     }
     read_elf(alloc, file)
@@ -188,11 +188,10 @@ fn read_pe(alloc: Global, file: &[u8]) -> Result<(u16, Module<Vec<u8>>), FilePro
         pe_of file.now ≡ Ok (record { machine = read.0; unwind_data = read.1.unwind_data })) }
     ensures refused { IfErr result (λ problem. problem ≢ FileProblem.OutOfMemory → pe_of file.now ≡ Err problem) }
 {
-    let header = header::read_file_header(file)?;
-    let headers = section_header::read_section_headers(alloc, file, header)?;
-    let sections = unwind_sections::read_unwind_sections(alloc, file, header, headers.as_slice())?;
+    let pe = PeFile::read(alloc, file)?;
+    let sections = read_pe_sections(alloc, &pe)?;
     let module = module_of(alloc, sections)?;
-    Ok((elf_machine(header.machine), module))
+    Ok((elf_machine(pe.header().machine), module))
 }
 
 /// Returns the number by which ELF files name the machine of a PE file, or that of the PE file itself.
@@ -213,13 +212,11 @@ fn read_elf(alloc: Global, file: &[u8]) -> Result<(u16, Module<Vec<u8>>), FilePr
         elf_of file.now ≡ Ok (record { machine = read.0; unwind_data = read.1.unwind_data })) }
     ensures refused { IfErr result (λ problem. problem ≢ FileProblem.OutOfMemory → elf_of file.now ≡ Err problem) }
 {
-    let header = read_file_header(file)?;
-    let headers = read_section_headers(alloc, file, header)?;
-    let names = read_section_names(file, header, headers.as_slice())?;
-    let debug_frame = read_only_frames(alloc, file, headers.as_slice(), names)?;
-    let sections = unwind_sections_with(alloc, file, headers.as_slice(), names, debug_frame)?;
+    let elf = ElfFile::read(alloc, file)?;
+    let debug_frame = read_only_frames(alloc, &elf)?;
+    let sections = unwind_sections_with(alloc, &elf, debug_frame)?;
     let module = module_of(alloc, sections)?;
-    Ok((header.e_machine, module))
+    Ok((elf.header().e_machine, module))
 }
 
 /// Returns a module of these sections, which has all addresses.
@@ -236,20 +233,14 @@ fn module_of<I: ModuleSectionInfo<Vec<u8>> + Drop>(
 }
 
 /// Reads the `.debug_frame` of a file without `.eh_frame`.
-fn read_only_frames(
-    alloc: Global,
-    file: &[u8],
-    sections: &[SectionHeader],
-    names: &[u8],
-) -> Result<Option<Vec<u8>>, ContentsError>
-    ensures read { IfOk result (λ bytes. debug_frame_in file.now sections.now names.now ≡ Ok (bytes_in bytes)) }
-    ensures refused { IfErr result (λ error. error ≢ ContentsError.OutOfMemory
-        → debug_frame_in file.now sections.now names.now ≡ Err error) }
+fn read_only_frames(alloc: Global, elf: &ElfFile<'_>) -> Result<Option<Vec<u8>>, ContentsError>
+    ensures read { IfOk result (λ bytes. debug_frame_in elf.now ≡ Ok (bytes_in bytes)) }
+    ensures refused { IfErr result (λ error. error ≢ ContentsError.OutOfMemory → debug_frame_in elf.now ≡ Err error) }
 {
-    if has_eh_frame(file, sections, names) {
+    if has_eh_frame(elf) {
         Ok(None)
     } else {
-        read_debug_frame(alloc, file, sections, names)
+        read_debug_frame(alloc, elf)
     }
 }
 

@@ -8,12 +8,11 @@ use Rattle.framehop_bytes.specs.Bytes.{◌>>=◌, le4}
 use Rattle.framehop_bytes.specs.String.{string_of}
 use Rattle.framehop_pe_file.specs.Numbers.{IMAGE_DEBUG_TYPE_CODEVIEW, RSDS, DEBUG_DIRECTORY_SIZE}
 use Rattle.framehop_pe_file.specs.Block.{block_at, entries_in}
+use Rattle.framehop_pe_file.specs.PeFile.{PeFile}
 use Rattle.framehop_pe_file.specs.Rva.{bytes_at}
 use Rattle.framehop_pe_file.specs.declared.codeview.Rsds.{Rsds}
 use Rattle.framehop_pe_file.specs.declared.error.PeError.{PeError}
 use Rattle.framehop_pe_file.specs.declared.header.DataDirectory.{DataDirectory}
-use Rattle.framehop_pe_file.specs.declared.header.FileHeader.{FileHeader}
-use Rattle.framehop_pe_file.specs.declared.section_header.SectionHeader.{SectionHeader}
 
 -- a record by its values
 pub record RsdsView : Type 0 where
@@ -50,22 +49,22 @@ first_rsds file [] = None
 first_rsds file (entry ∷ entries) = option_or (rsds_of_entry file entry) (first_rsds file entries)
 
 -- the debug directory, none where there is no such data directory
-abbrev pub debug_bytes_in : List ℕ → FileHeader → List SectionHeader → Option DataDirectory → Result (List ℕ) PeError
-debug_bytes_in file header sections None = Ok []
-debug_bytes_in file header sections (Some directory) =
-    bytes_at file header sections directory.virtual_address directory.size
+abbrev pub debug_bytes_in : PeFile → Option DataDirectory → Result (List ℕ) PeError
+debug_bytes_in pe None = Ok []
+debug_bytes_in pe (Some directory) =
+    bytes_at pe directory.virtual_address directory.size
 
-abbrev pub debug_bytes_of : List ℕ → FileHeader → List SectionHeader → Result (List ℕ) PeError
-debug_bytes_of file header sections = debug_bytes_in file header sections header.debug_directory
+abbrev pub debug_bytes_of : PeFile → Result (List ℕ) PeError
+debug_bytes_of pe = debug_bytes_in pe pe.header.debug_directory
 
 -- the entries of the debug directory
-unfoldable pub debug_entries_of : List ℕ → FileHeader → List SectionHeader → Result (List (List ℕ)) PeError
-debug_entries_of file header sections = do
-  bytes ← debug_bytes_of file header sections
+unfoldable pub debug_entries_of : PeFile → Result (List (List ℕ)) PeError
+debug_entries_of pe = do
+  bytes ← debug_bytes_of pe
   Ok (entries_in DEBUG_DIRECTORY_SIZE bytes)
 
 -- the record of a file
-unfoldable pub rsds_of : List ℕ → FileHeader → List SectionHeader → Result (Option RsdsView) PeError
-rsds_of file header sections = do
-  entries ← debug_entries_of file header sections
-  Ok (first_rsds file entries)
+unfoldable pub rsds_of : PeFile → Result (Option RsdsView) PeError
+rsds_of pe = do
+  entries ← debug_entries_of pe
+  Ok (first_rsds pe.bytes entries)

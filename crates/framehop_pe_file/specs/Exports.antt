@@ -4,21 +4,20 @@ use Rattle.std.specs.Prelude.{ℕ, ◌+◌, ◌-◌, ◌*◌, Bool, not, ◌&&�
 use Rattle.framehop_bytes.specs.Bytes.{le2, le4}
 use Rattle.framehop_pe_file.specs.Numbers.{EXPORT_DIRECTORY_SIZE}
 use Rattle.framehop_pe_file.specs.Block.{entries_in}
+use Rattle.framehop_pe_file.specs.PeFile.{PeFile}
 use Rattle.framehop_pe_file.specs.Rva.{bytes_at}
 use Rattle.framehop_pe_file.specs.declared.error.PeError.{PeError}
 use Rattle.framehop_pe_file.specs.declared.exports.Export.{Export}
 use Rattle.framehop_pe_file.specs.declared.header.DataDirectory.{DataDirectory}
-use Rattle.framehop_pe_file.specs.declared.header.FileHeader.{FileHeader}
-use Rattle.framehop_pe_file.specs.declared.section_header.SectionHeader.{SectionHeader}
 
 -- the bytes of the export directory, none where there is no such data directory
-abbrev pub directory_bytes_in : List ℕ → FileHeader → List SectionHeader → Option DataDirectory → Result (List ℕ) PeError
-directory_bytes_in file header sections None = Ok []
-directory_bytes_in file header sections (Some directory) =
-    bytes_at file header sections directory.virtual_address directory.size
+abbrev pub directory_bytes_in : PeFile → Option DataDirectory → Result (List ℕ) PeError
+directory_bytes_in pe None = Ok []
+directory_bytes_in pe (Some directory) =
+    bytes_at pe directory.virtual_address directory.size
 
-abbrev pub directory_bytes_of : List ℕ → FileHeader → List SectionHeader → Result (List ℕ) PeError
-directory_bytes_of file header sections = directory_bytes_in file header sections header.export_directory
+abbrev pub directory_bytes_of : PeFile → Result (List ℕ) PeError
+directory_bytes_of pe = directory_bytes_in pe pe.header.export_directory
 
 -- a table of a size at an RVA, as far as the directory has it, which begins at `start`
 abbrev pub table_at : ℕ → List ℕ → ℕ → ℕ → List ℕ

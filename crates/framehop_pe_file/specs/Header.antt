@@ -1,5 +1,6 @@
 -- The headers of a file ("PE Format": "MS-DOS Stub", "Signature", "COFF File Header", "Optional Header").
-use Rattle.std.specs.Prelude.{ℕ, ◌+◌, ◌*◌, List, length, not, Option, Some, None, Result, Ok, Err, nat_lt, nat_le, ◌==◌, ◌&&◌, if◌then◌else◌}
+use Rattle.std.specs.Prelude.{ℕ, ◌+◌, ◌*◌, Bool, codes, List, length, nat_eq, not, Option, Some, None, Result, Ok, Err, nat_lt, nat_le, ◌==◌, ◌&&◌, if◌then◌else◌}
+use Rattle.std.specs.List.{starts_with}
 use Rattle.framehop_bytes.specs.Bytes.{◌>>=◌, le2, le4, le8}
 use Rattle.framehop_pe_file.specs.Numbers.{IMAGE_DOS_SIGNATURE, IMAGE_NT_SIGNATURE, IMAGE_NT_OPTIONAL_HDR64_MAGIC, IMAGE_FILE_MACHINE_AMD64, IMAGE_FILE_MACHINE_ARM64, IMAGE_DIRECTORY_ENTRY_EXPORT, IMAGE_DIRECTORY_ENTRY_EXCEPTION, IMAGE_DIRECTORY_ENTRY_DEBUG, DOS_HEADER_SIZE, COFF_SIZE, FIELDS_SIZE}
 use Rattle.framehop_pe_file.specs.Block.{block_at}
@@ -9,6 +10,10 @@ use Rattle.framehop_pe_file.specs.declared.header.DataDirectory.{DataDirectory}
 use Rattle.framehop_pe_file.specs.declared.header.FileHeader.{FileHeader}
 use Rattle.framehop_pe_file.specs.declared.header.Machine.{Machine}
 use Rattle.framehop_pe_file.specs.declared.header.Machine.TheVariants.{X86_64, Aarch64, Other}
+
+-- a PE file begins with "MZ"
+abbrev pub is_pe : List ℕ → Bool
+is_pe file = starts_with nat_eq file (codes "MZ")
 
 -- Machine
 abbrev pub machine_of : ℕ → Machine

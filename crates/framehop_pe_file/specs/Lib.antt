@@ -5,6 +5,7 @@ pub mod Numbers
 pub mod Block
 pub mod Header
 pub mod SectionHeader
+pub mod PeFile
 pub mod Section
 pub mod Rva
 pub mod UnwindSections

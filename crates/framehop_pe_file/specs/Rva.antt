@@ -3,10 +3,10 @@
 use Rattle.std.specs.Prelude.{ℕ, ◌+◌, ◌-◌, List, Bool, Option, Some, None, Result, Err, nat_le, ◌&&◌, if◌then◌else◌}
 use Rattle.std.specs.List.{find}
 use Rattle.framehop_pe_file.specs.Block.{block_at}
+use Rattle.framehop_pe_file.specs.PeFile.{PeFile}
 use Rattle.framehop_pe_file.specs.Section.{size_in_file}
 use Rattle.framehop_pe_file.specs.declared.error.PeError.{PeError}
 use Rattle.framehop_pe_file.specs.declared.error.PeError.TheVariants.{NotInSection}
-use Rattle.framehop_pe_file.specs.declared.header.FileHeader.{FileHeader}
 use Rattle.framehop_pe_file.specs.declared.section_header.SectionHeader.{SectionHeader}
 
 -- the file has so many bytes of a section from an RVA on
@@ -24,7 +24,7 @@ bytes_in file rva size None = Err (NotInSection rva)
 bytes_in file rva size (Some section) = block_at file (section.pointer_to_raw_data + (rva - section.virtual_address)) size
 
 -- the bytes of the image from an RVA on: the headers, of SizeOfHeaders, are at the front of both
-abbrev pub bytes_at : List ℕ → FileHeader → List SectionHeader → ℕ → ℕ → Result (List ℕ) PeError
-bytes_at file header sections rva size =
-    if nat_le (rva + size) header.size_of_headers then block_at file rva size
-    else bytes_in file rva size (section_with sections rva size)
+abbrev pub bytes_at : PeFile → ℕ → ℕ → Result (List ℕ) PeError
+bytes_at pe rva size =
+    if nat_le (rva + size) pe.header.size_of_headers then block_at pe.bytes rva size
+    else bytes_in pe.bytes rva size (section_with pe.sections rva size)

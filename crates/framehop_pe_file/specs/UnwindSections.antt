@@ -5,10 +5,10 @@ use Rattle.std.specs.Result.{result_ok}
 use Rattle.std.specs.declared.ops.Range.{Range}
 use Rattle.framehop_bytes.specs.SectionTable.{SectionTable}
 use Rattle.framehop_bytes.specs.ExplicitSections.{under}
+use Rattle.framehop_pe_file.specs.PeFile.{PeFile}
 use Rattle.framehop_pe_file.specs.Rva.{bytes_at}
 use Rattle.framehop_pe_file.specs.Section.{contents_of, section_called}
 use Rattle.framehop_pe_file.specs.declared.header.DataDirectory.{DataDirectory}
-use Rattle.framehop_pe_file.specs.declared.header.FileHeader.{FileHeader}
 use Rattle.framehop_pe_file.specs.declared.section_header.SectionHeader.{SectionHeader}
 use Rattle.framehop_pe_file.specs.declared.unwind_sections.Part.{Part}
 use Rattle.framehop_pe_file.specs.declared.unwind_sections.PeUnwindSections.{PeUnwindSections}
@@ -50,23 +50,23 @@ part_in file section =
     (result_ok (contents_of file section))
 
 -- the first section of a name, if the file holds it
-abbrev pub part_called : List ℕ → List SectionHeader → List ℕ → Option PartView
-part_called file sections name = option_and_then (part_in file) (section_called sections name)
+abbrev pub part_called : PeFile → List ℕ → Option PartView
+part_called pe name = option_and_then (part_in pe.bytes) (section_called pe.sections name)
 
 -- what a data directory names, if the file holds it
-abbrev pub part_of_directory : List ℕ → FileHeader → List SectionHeader → DataDirectory → Option PartView
-part_of_directory file header sections directory =
+abbrev pub part_of_directory : PeFile → DataDirectory → Option PartView
+part_of_directory pe directory =
     option_map (λ contents. record { rva = directory.virtual_address; size = directory.size; contents = contents })
-    (result_ok (bytes_at file header sections directory.virtual_address directory.size))
+    (result_ok (bytes_at pe directory.virtual_address directory.size))
 
 -- the function table that the data directory of exceptions names
-abbrev pub exception_part : List ℕ → FileHeader → List SectionHeader → Option PartView
-exception_part file header sections = option_and_then (part_of_directory file header sections) header.exception_directory
+abbrev pub exception_part : PeFile → Option PartView
+exception_part pe = option_and_then (part_of_directory pe) pe.header.exception_directory
 
 -- the function table: the section .pdata, or else what the data directory of exceptions names
-abbrev pub pdata_of : List ℕ → FileHeader → List SectionHeader → Option PartView
-pdata_of file header sections =
-    option_or (part_called file sections (codes ".pdata")) (exception_part file header sections)
+abbrev pub pdata_of : PeFile → Option PartView
+pdata_of pe =
+    option_or (part_called pe (codes ".pdata")) (exception_part pe)
 
 -- the addresses of a part, from the base on, and its bytes
 abbrev pub range_of : ℕ → Option PartView → Option (Range ℕ)
@@ -76,13 +76,13 @@ abbrev pub data_of : Option PartView → Option (List ℕ)
 data_of part = option_map (λ (p : PartView). p.contents) part
 
 -- what an unwinder is to know of a file
-abbrev pub unwind_sections_of : List ℕ → FileHeader → List SectionHeader → PeUnwindSections (List ℕ)
-unwind_sections_of file header sections =
-    let base = header.image_base in
-    let pdata = pdata_of file header sections in
-    let rdata = part_called file sections (codes ".rdata") in
-    let xdata = part_called file sections (codes ".xdata") in
-    let text = part_called file sections (codes ".text") in
+abbrev pub unwind_sections_of : PeFile → PeUnwindSections (List ℕ)
+unwind_sections_of pe =
+    let base = pe.header.image_base in
+    let pdata = pdata_of pe in
+    let rdata = part_called pe (codes ".rdata") in
+    let xdata = part_called pe (codes ".xdata") in
+    let text = part_called pe (codes ".text") in
     record {
       base_svma = base;
       pdata_svma = range_of base pdata;

@@ -4,9 +4,8 @@ ghost use Rattle.framehop_pe_file.specs.CodeView.{rsds_view, rsds_in, rsds_of_en
 
 use crate::block::read_block;
 use crate::error::PeError;
-use crate::header::FileHeader;
+use crate::pe_file::PeFile;
 use crate::rva::read_at_rva;
-use crate::section_header::SectionHeader;
 use framehop_bytes::bytes::{back, front, u32_at};
 use framehop_bytes::string::string_at;
 
@@ -47,49 +46,37 @@ pub struct Rsds<'a> {
 /// Source: Microsoft, "PE Format", "Debug Directory (Image Only)" and "Debug Type"; of the record Breakpad,
 /// `minidump_format.h`, `MDCVInfoPDB70`.
 #[tactic(auto, unfolding(crate::specs::CodeView::rsds_of))]
-pub fn read_rsds<'a>(
-    file: &'a [u8],
-    header: FileHeader,
-    sections: &[SectionHeader],
-) -> Result<Option<Rsds<'a>>, PeError>
+pub fn read_rsds<'a>(pe: &PeFile<'a>) -> Result<Option<Rsds<'a>>, PeError>
     ensures { MatchResult result
-        (λ found. rsds_of file.entry.now header sections.now ≡ Ok (option_map rsds_view found))
-        (λ error. rsds_of file.entry.now header sections.now ≡ Err error) }
+        (λ found. rsds_of pe.entry.now ≡ Ok (option_map rsds_view found))
+        (λ error. rsds_of pe.entry.now ≡ Err error) }
 {
-    let entries = debug_entries(file, header, sections)?;
-    Ok(first_rsds(file, entries))
+    let entries = debug_entries(pe)?;
+    Ok(first_rsds(pe.bytes(), entries))
 }
 
 /// Returns the entries of the debug directory.
 #[tactic(auto, unfolding(crate::specs::CodeView::debug_entries_of))]
-fn debug_entries<'a>(
-    file: &'a [u8],
-    header: FileHeader,
-    sections: &[SectionHeader],
-) -> Result<&'a [[u8; ENTRY_SIZE]], PeError>
+fn debug_entries<'a>(pe: &PeFile<'a>) -> Result<&'a [[u8; ENTRY_SIZE]], PeError>
     ensures { MatchResult result
-        (λ entries. debug_entries_of file.entry.now header sections.now ≡ Ok entries.now)
-        (λ error. debug_entries_of file.entry.now header sections.now ≡ Err error) }
+        (λ entries. debug_entries_of pe.entry.now ≡ Ok entries.now)
+        (λ error. debug_entries_of pe.entry.now ≡ Err error) }
 {
-    let bytes = debug_bytes(file, header, sections)?;
+    let bytes = debug_bytes(pe)?;
     let (entries, _) = bytes.as_chunks::<ENTRY_SIZE>();
     Ok(entries)
 }
 
 /// Returns the bytes of the debug directory, none where there is no such directory.
-fn debug_bytes<'a>(
-    file: &'a [u8],
-    header: FileHeader,
-    sections: &[SectionHeader],
-) -> Result<&'a [u8], PeError>
+fn debug_bytes<'a>(pe: &PeFile<'a>) -> Result<&'a [u8], PeError>
     ensures { MatchResult result
-        (λ bytes. debug_bytes_of file.entry.now header sections.now ≡ Ok bytes.now)
-        (λ error. debug_bytes_of file.entry.now header sections.now ≡ Err error) }
+        (λ bytes. debug_bytes_of pe.entry.now ≡ Ok bytes.now)
+        (λ error. debug_bytes_of pe.entry.now ≡ Err error) }
 {
-    match header.debug_directory {
+    match pe.header().debug_directory {
         Some(directory) => {
             let (rva, size) = (directory.virtual_address, directory.size);
-            read_at_rva(file, header, sections, rva, size)
+            read_at_rva(pe, rva, size)
         }
         None => Ok(&[]),
     }

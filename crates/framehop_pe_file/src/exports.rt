@@ -4,9 +4,8 @@ ghost use Rattle.framehop_pe_file.specs.Block.{entries_in};
 ghost use Rattle.framehop_pe_file.specs.Exports.{directory_bytes_of, table_at, address_at, is_forwarder, export_at, exports_from, exports_in};
 
 use crate::error::PeError;
-use crate::header::FileHeader;
+use crate::pe_file::PeFile;
 use crate::rva::read_at_rva;
-use crate::section_header::SectionHeader;
 use framehop_bytes::bytes::{back, front, u16_at, u32_at};
 use std::alloc::{AllocError, Global};
 
@@ -35,19 +34,15 @@ pub struct Export {
 /// `NotInSection` where neither the headers nor a section have its bytes, and `Eof` where the file ends before they do.
 ///
 /// Source: Microsoft, "PE Format", "The .edata Section (Image Only)".
-pub fn read_export_directory<'a>(
-    file: &'a [u8],
-    header: FileHeader,
-    sections: &[SectionHeader],
-) -> Result<&'a [u8], PeError>
+pub fn read_export_directory<'a>(pe: &PeFile<'a>) -> Result<&'a [u8], PeError>
     ensures { MatchResult result
-        (λ bytes. directory_bytes_of file.entry.now header sections.now ≡ Ok bytes.now)
-        (λ error. directory_bytes_of file.entry.now header sections.now ≡ Err error) }
+        (λ bytes. directory_bytes_of pe.entry.now ≡ Ok bytes.now)
+        (λ error. directory_bytes_of pe.entry.now ≡ Err error) }
 {
-    match header.export_directory {
+    match pe.header().export_directory {
         Some(directory) => {
             let (rva, size) = (directory.virtual_address, directory.size);
-            read_at_rva(file, header, sections, rva, size)
+            read_at_rva(pe, rva, size)
         }
         None => Ok(&[]),
     }

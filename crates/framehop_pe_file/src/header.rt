@@ -1,6 +1,6 @@
 //! The headers of a file.
 ghost use Rattle.std.specs.Prelude.{◌≡◌, ◌≤◌, ◌<◌, Ok, Err, MatchResult, IfOk, length};
-ghost use Rattle.framehop_pe_file.specs.Header.{machine_of, directory_of, start_of, coff_header_of, optional_header_of, fields_of, file_header_of};
+ghost use Rattle.framehop_pe_file.specs.Header.{is_pe, machine_of, directory_of, start_of, coff_header_of, optional_header_of, fields_of, file_header_of};
 
 use crate::block::read_block;
 use crate::error::PeError;
@@ -88,6 +88,15 @@ pub struct FileHeader {
     pub debug_directory: Option<DataDirectory>,
     /// Where the section headers begin, in bytes from the start of the file.
     pub section_table: u64,
+}
+
+/// Returns whether a file may be a PE file, by its first two bytes.
+///
+/// Source: Microsoft, "PE Format", "MS-DOS Stub".
+pub fn is_pe(file: &[u8]) -> bool
+    ensures { result ≡ is_pe file.now }
+{
+    file.starts_with(b"MZ")
 }
 
 /// Reads the headers of a PE file. A data directory that the optional header does not have, or whose address

@@ -16,6 +16,7 @@ pub mod codeview;
 pub mod error;
 pub mod exports;
 pub mod header;
+pub mod pe_file;
 pub mod rva;
 pub mod section;
 pub mod section_header;

@@ -4,7 +4,7 @@ ghost use Rattle.framehop_pe_file.specs.Rva.{holds, section_with, bytes_at};
 
 use crate::block::read_block;
 use crate::error::PeError;
-use crate::header::FileHeader;
+use crate::pe_file::PeFile;
 use crate::section::size_in_file;
 use crate::section_header::SectionHeader;
 
@@ -18,26 +18,20 @@ use crate::section_header::SectionHeader;
 ///
 /// Source: Microsoft, "PE Format", "General Concepts", "relative virtual address (RVA)", and "Optional Header
 /// Windows-Specific Fields (Image Only)", `SizeOfHeaders`.
-pub fn read_at_rva<'a>(
-    file: &'a [u8],
-    header: FileHeader,
-    sections: &[SectionHeader],
-    rva: u32,
-    size: u32,
-) -> Result<&'a [u8], PeError>
+pub fn read_at_rva<'a>(pe: &PeFile<'a>, rva: u32, size: u32) -> Result<&'a [u8], PeError>
     ensures { MatchResult result
-        (λ bytes. bytes_at file.entry.now header sections.now rva size ≡ Ok bytes.now)
-        (λ error. bytes_at file.entry.now header sections.now rva size ≡ Err error) }
+        (λ bytes. bytes_at pe.entry.now rva size ≡ Ok bytes.now)
+        (λ error. bytes_at pe.entry.now rva size ≡ Err error) }
 {
     let (first, length) = (u64::from(rva), u64::from(size));
-    if first + length <= u64::from(header.size_of_headers) {
-        return read_block(file, first, length);
+    if first + length <= u64::from(pe.header().size_of_headers) {
+        return read_block(pe.bytes(), first, length);
     }
-    let Some(section) = section_with_rva(sections, rva, size) else {
+    let Some(section) = section_with_rva(pe.sections(), rva, size) else {
         return Err(PeError::NotInSection { rva });
     };
     let offset = u64::from(section.pointer_to_raw_data) + u64::from(rva - section.virtual_address);
-    read_block(file, offset, length)
+    read_block(pe.bytes(), offset, length)
 }
 
 /// Returns the first section that has so many bytes from an RVA on in the file.

@@ -4,7 +4,8 @@ ghost use Rattle.std.specs.declared.alloc.Global.{Global};
 ghost use Rattle.framehop_pe_file.specs.UnwindSections.{part_view, range_in, part_in, part_called, part_of_directory, exception_part, pdata_of, table_of, range_of, data_of, sections_view, unwind_sections_of};
 
 use crate::error::PeError;
-use crate::header::{DataDirectory, FileHeader};
+use crate::header::DataDirectory;
+use crate::pe_file::PeFile;
 use crate::rva::read_at_rva;
 use crate::section::{read_contents, section_by_name};
 use crate::section_header::SectionHeader;
@@ -105,14 +106,12 @@ fn copy_of(range: &Option<Range<u64>>) -> Option<Range<u64>>
 /// `OutOfMemory`.
 pub fn read_unwind_sections(
     alloc: Global,
-    file: &[u8],
-    header: FileHeader,
-    sections: &[SectionHeader],
+    pe: &PeFile<'_>,
 ) -> Result<PeUnwindSections<Vec<u8>>, PeError>
-    ensures exact { IfOk result (λ info. sections_view (λ (vec : Vec ℕ Global). vec.items) info ≡ unwind_sections_of file.now header sections.now) }
+    ensures exact { IfOk result (λ info. sections_view (λ (vec : Vec ℕ Global). vec.items) info ≡ unwind_sections_of pe.now) }
     ensures refused { IfErr result (λ error. error ≡ PeError.OutOfMemory) }
 {
-    let lent = lend_unwind_sections(file, header, sections);
+    let lent = lend_unwind_sections(pe);
     Ok(PeUnwindSections {
         base_svma: lent.base_svma,
         pdata_svma: lent.pdata_svma,
@@ -133,18 +132,14 @@ pub fn read_unwind_sections(
 /// Takes no memory.
 ///
 /// Source: Microsoft, "PE Format", "Special Sections" and "The .pdata Section".
-pub fn lend_unwind_sections<'a>(
-    file: &'a [u8],
-    header: FileHeader,
-    sections: &[SectionHeader],
-) -> PeUnwindSections<&'a [u8]>
-    ensures { sections_view (λ bytes. bytes.now) result ≡ unwind_sections_of file.entry.now header sections.now }
+pub fn lend_unwind_sections<'a>(pe: &PeFile<'a>) -> PeUnwindSections<&'a [u8]>
+    ensures { sections_view (λ bytes. bytes.now) result ≡ unwind_sections_of pe.entry.now }
 {
-    let base = header.image_base;
-    let pdata = pdata(file, header, sections);
-    let rdata = part_called(file, sections, b".rdata");
-    let xdata = part_called(file, sections, b".xdata");
-    let text = part_called(file, sections, b".text");
+    let base = pe.header().image_base;
+    let pdata = pdata(pe);
+    let rdata = part_called(pe, b".rdata");
+    let xdata = part_called(pe, b".xdata");
+    let text = part_called(pe, b".text");
     PeUnwindSections {
         base_svma: base,
         pdata_svma: range_of(base, pdata),
@@ -159,21 +154,21 @@ pub fn lend_unwind_sections<'a>(
 }
 
 /// Returns the function table: the section `.pdata`, or else what the data directory of exceptions names.
-fn pdata<'a>(file: &'a [u8], header: FileHeader, sections: &[SectionHeader]) -> Option<Part<'a>>
-    ensures { option_map part_view result ≡ pdata_of file.entry.now header sections.now }
+fn pdata<'a>(pe: &PeFile<'a>) -> Option<Part<'a>>
+    ensures { option_map part_view result ≡ pdata_of pe.entry.now }
 {
-    match part_called(file, sections, b".pdata") {
+    match part_called(pe, b".pdata") {
         Some(part) => Some(part),
-        None => exception_part(file, header, sections),
+        None => exception_part(pe),
     }
 }
 
 /// Returns the first section of a name, if the file holds it.
-fn part_called<'a>(file: &'a [u8], sections: &[SectionHeader], name: &[u8]) -> Option<Part<'a>>
-    ensures { option_map part_view result ≡ part_called file.entry.now sections.now name.now }
+fn part_called<'a>(pe: &PeFile<'a>, name: &[u8]) -> Option<Part<'a>>
+    ensures { option_map part_view result ≡ part_called pe.entry.now name.now }
 {
-    let section = section_by_name(sections, name)?;
-    part_in(file, section)
+    let section = section_by_name(pe.sections(), name)?;
+    part_in(pe.bytes(), section)
 }
 
 /// Returns a section, if the file holds it.
@@ -191,28 +186,19 @@ fn part_in(file: &[u8], section: SectionHeader) -> Option<Part<'_>>
 }
 
 /// Returns what the data directory of exceptions names, if there is one and the file holds it.
-fn exception_part<'a>(
-    file: &'a [u8],
-    header: FileHeader,
-    sections: &[SectionHeader],
-) -> Option<Part<'a>>
-    ensures { option_map part_view result ≡ exception_part file.entry.now header sections.now }
+fn exception_part<'a>(pe: &PeFile<'a>) -> Option<Part<'a>>
+    ensures { option_map part_view result ≡ exception_part pe.entry.now }
 {
-    let directory = header.exception_directory?;
-    part_of_directory(file, header, sections, directory)
+    let directory = pe.header().exception_directory?;
+    part_of_directory(pe, directory)
 }
 
 /// Returns what a data directory names, if the file holds it.
-fn part_of_directory<'a>(
-    file: &'a [u8],
-    header: FileHeader,
-    sections: &[SectionHeader],
-    directory: DataDirectory,
-) -> Option<Part<'a>>
-    ensures { option_map part_view result ≡ part_of_directory file.entry.now header sections.now directory }
+fn part_of_directory<'a>(pe: &PeFile<'a>, directory: DataDirectory) -> Option<Part<'a>>
+    ensures { option_map part_view result ≡ part_of_directory pe.entry.now directory }
 {
     let (rva, size) = (directory.virtual_address, directory.size);
-    match read_at_rva(file, header, sections, rva, size) {
+    match read_at_rva(pe, rva, size) {
         Ok(contents) => Some(Part {
             rva,
             size,

@@ -13,8 +13,8 @@ use Rattle.framehop_elf.specs.BuildId.{build_id_of_file}
 use Rattle.framehop_elf.specs.Header.{file_header_of}
 use Rattle.framehop_elf.specs.ProgramHeader.{program_headers_of}
 use Rattle.framehop_elf.specs.Segment.{loaded_segments_of}
-use Rattle.framehop_elf.specs.Section.{contents_of as contents_in, section_called, section_names_of}
-use Rattle.framehop_elf.specs.SectionHeader.{section_headers_of}
+use Rattle.framehop_elf.specs.ElfFile.{ElfFile, elf_file_with, section_called}
+use Rattle.framehop_elf.specs.Section.{contents_of as contents_in}
 use Rattle.framehop_bytes.specs.String.{before_nul}
 use Rattle.framehop_elf.specs.Symbol.{start_of, function_symbols_of, labels_of, symbol_names_of}
 use Rattle.framehop_elf.specs.UnwindSections.{unwind_sections_of, debug_frame_of, bytes_or_none, has_eh_frame, debug_frame_sections_of}
@@ -27,8 +27,8 @@ use Rattle.framehop_elf.specs.declared.error.ElfError.TheVariants.{OutOfMemory a
 use Rattle.framehop_memory.specs.declared.segment.Segment.{Segment}
 use Rattle.framehop_pe_file.specs.CodeView.{RsdsView, rsds_of}
 use Rattle.framehop_pe_file.specs.Exports.{directory_bytes_of}
-use Rattle.framehop_pe_file.specs.Header.{file_header_of as pe_file_header_of}
-use Rattle.framehop_pe_file.specs.SectionHeader.{section_headers_of as pe_section_headers_of}
+use Rattle.framehop_pe_file.specs.Header.{is_pe}
+use Rattle.framehop_pe_file.specs.PeFile.{PeFile, pe_file_of}
 use Rattle.framehop_pe_file.specs.UnwindSections.{table_of as pe_table_of, unwind_sections_of as pe_unwind_sections_of}
 use Rattle.framehop_pe_file.specs.declared.error.PeError.{PeError}
 use Rattle.framehop_pe_file.specs.declared.error.PeError.TheVariants.{OutOfMemory as PeOutOfMemory}
@@ -46,33 +46,25 @@ use Rattle.framehop_symbols.specs.declared.object_file.FileProblem.TheVariants.{
 use Rattle.framehop_symbols.specs.declared.object_file.Headers.{Headers}
 use Rattle.framehop_symbols.specs.declared.object_file.Symbols.{Symbols}
 
--- where a process begins in a file, or 0, its segments and sections, and the names of its sections
+-- a file with its segments
 pub record HeadersView : Type 0 where
-  pub entry : ℕ
+  pub elf : ElfFile
   pub segments : List ProgramHeader
-  pub sections : List SectionHeader
-  pub names : List ℕ
 
 abbrev pub headers_view : Headers → HeadersView
-headers_view h = record {
-  entry = h.entry;
-  segments = h.segments.items;
-  sections = h.sections.items;
-  names = h.names.now;
-}
+headers_view h = record { elf = h.elf; segments = h.segments.items }
 
 -- the headers of a file's bytes, or the first refusal
 unfoldable pub headers_of : List ℕ → Result HeadersView ElfError
 headers_of file = do
   header ← file_header_of file
   segments ← program_headers_of file header
-  sections ← section_headers_of file header
-  names ← section_names_of file header sections
-  Ok (record { entry = header.e_entry; segments = segments; sections = sections; names = names })
+  elf ← elf_file_with file header
+  Ok (record { elf = elf; segments = segments })
 
 -- the build id of a file, no bytes where it has none
-abbrev pub build_id_in : List ℕ → HeadersView → List ℕ
-build_id_in file headers = unwrap_or (build_id_of_file file headers.segments headers.sections) []
+abbrev pub build_id_in : HeadersView → List ℕ
+build_id_in headers = unwrap_or (build_id_of_file headers.elf.bytes headers.segments headers.elf.sections) []
 
 -- what a section holds that a file has, no bytes where it can't be read
 abbrev pub contents_or_none : List ℕ → Option SectionHeader → List ℕ
@@ -81,13 +73,8 @@ contents_or_none file None = []
 
 -- the name of a file's debug file, no bytes where it has none (GDB, "Debugging Information in Separate Files"): the string
 -- at the front of `.gnu_debuglink`
-abbrev pub debug_link_in : List ℕ → HeadersView → List ℕ
-debug_link_in file headers =
-    before_nul (contents_or_none file (section_called headers.sections headers.names (codes ".gnu_debuglink")))
-
--- what the `.debug_frame` of a file holds, decompressed where it is compressed, if the file has one, or why that can't be had
-abbrev pub frames_in : List ℕ → HeadersView → Result (Option (List ℕ)) ContentsError
-frames_in file headers = debug_frame_of file headers.sections headers.names
+abbrev pub debug_link_in : ElfFile → List ℕ
+debug_link_in elf = before_nul (contents_or_none elf.bytes (section_called elf (codes ".gnu_debuglink")))
 
 -- a build id that is wanted is another
 abbrev pub is_another : List ℕ → List ℕ → Bool
@@ -108,39 +95,39 @@ abbrev pub listed : List Symbol → List Symbol → List ℕ → Listed
 listed functions labels names = record { functions = functions; labels = labels; names = names }
 
 -- those of a section, if all can be read
-unfoldable pub listed_of : List ℕ → List SectionHeader → SectionHeader → List ℕ → Result Listed ElfError
-listed_of file sections table names = do
-  functions ← function_symbols_of file sections table
-  labels ← labels_of file sections table names
+unfoldable pub listed_of : ElfFile → SectionHeader → List ℕ → Result Listed ElfError
+listed_of elf table names = do
+  functions ← function_symbols_of elf.bytes elf.sections table
+  labels ← labels_of elf.bytes elf.sections table names
   Ok (listed functions labels names)
 
-unfoldable pub symbols_of : List ℕ → List SectionHeader → SectionHeader → Result Listed ElfError
-symbols_of file sections table = do
-  names ← symbol_names_of file sections table
-  listed_of file sections table names
+unfoldable pub symbols_of : ElfFile → SectionHeader → Result Listed ElfError
+symbols_of elf table = do
+  names ← symbol_names_of elf.bytes elf.sections table
+  listed_of elf table names
 
 -- the functions and labels of a symbol table with their names, if there is one
-abbrev pub symbols_in : List ℕ → List SectionHeader → Option SectionHeader → Option Listed
-symbols_in file sections None = None
-symbols_in file sections (Some table) = result_ok (symbols_of file sections table)
+abbrev pub symbols_in : ElfFile → Option SectionHeader → Option Listed
+symbols_in elf None = None
+symbols_in elf (Some table) = result_ok (symbols_of elf table)
 
 -- the symbols of the section of a name
-abbrev pub symbols_called : List ℕ → HeadersView → List ℕ → Option Listed
-symbols_called file headers name = symbols_in file headers.sections (section_called headers.sections headers.names name)
+abbrev pub symbols_called : ElfFile → List ℕ → Option Listed
+symbols_called elf name = symbols_in elf (section_called elf name)
 
 -- the symbol tables of a file, as they are asked
-abbrev pub tables_of : List ℕ → HeadersView → List Listed
-tables_of file headers =
-    option_to_list (symbols_called file headers (codes ".symtab")) ++ option_to_list (symbols_called file headers (codes ".dynsym"))
+abbrev pub tables_of : ElfFile → List Listed
+tables_of elf =
+    option_to_list (symbols_called elf (codes ".symtab")) ++ option_to_list (symbols_called elf (codes ".dynsym"))
 
 -- that of a debug file whose build id is the file's
-abbrev pub debug_tables_by : List ℕ → List ℕ → Result HeadersView ElfError → List Listed
-debug_tables_by build_id file (Err refusal) = []
-debug_tables_by build_id file (Ok headers) =
-    if is_another build_id (build_id_in file headers) then [] else option_to_list (symbols_called file headers (codes ".symtab"))
+abbrev pub debug_tables_by : List ℕ → Result HeadersView ElfError → List Listed
+debug_tables_by build_id (Err refusal) = []
+debug_tables_by build_id (Ok headers) =
+    if is_another build_id (build_id_in headers) then [] else option_to_list (symbols_called headers.elf (codes ".symtab"))
 
 abbrev pub debug_tables_of : List ℕ → List ℕ → List Listed
-debug_tables_of build_id file = debug_tables_by build_id file (headers_of file)
+debug_tables_of build_id file = debug_tables_by build_id (headers_of file)
 
 -- how many bytes of a symbol's name are looked at to choose among those of one function
 abbrev pub LOOKED_AT : ℕ
@@ -201,20 +188,18 @@ module_of info = record {
 }
 
 -- the same of a file's sections with these bytes of `.debug_frame`, and of these bytes only
-abbrev pub module_with : List ℕ → HeadersView → Option (List ℕ) → ModuleView
-module_with file headers debug_frame = module_of (unwind_sections_of file headers.sections headers.names debug_frame)
+abbrev pub module_with : ElfFile → Option (List ℕ) → ModuleView
+module_with elf debug_frame = module_of (unwind_sections_of elf debug_frame)
 
-abbrev pub debug_frame_with : HeadersView → Option (List ℕ) → ModuleView
-debug_frame_with headers debug_frame = module_of (debug_frame_sections_of headers.sections headers.names debug_frame)
+abbrev pub debug_frame_with : ElfFile → Option (List ℕ) → ModuleView
+debug_frame_with elf debug_frame = module_of (debug_frame_sections_of elf debug_frame)
 
 -- by these bytes of `.debug_frame` a file's module, where it holds no `.eh_frame`, and else the module beside it
-abbrev pub module_in : List ℕ → HeadersView → Option (List ℕ) → ModuleView
-module_in file headers debug_frame =
-    module_with file headers (if has_eh_frame file headers.sections headers.names then None else debug_frame)
+abbrev pub module_in : ElfFile → Option (List ℕ) → ModuleView
+module_in elf debug_frame = module_with elf (if has_eh_frame elf then None else debug_frame)
 
-abbrev pub debug_frame_in : List ℕ → HeadersView → Option (List ℕ) → ModuleView
-debug_frame_in file headers debug_frame =
-    debug_frame_with headers (if has_eh_frame file headers.sections headers.names then debug_frame else None)
+abbrev pub debug_frame_in : ElfFile → Option (List ℕ) → ModuleView
+debug_frame_in elf debug_frame = debug_frame_with elf (if has_eh_frame elf then debug_frame else None)
 
 -- the same of no sections: it has no unwind data
 abbrev pub no_sections : ExplicitModuleSectionInfo (List ℕ)
@@ -280,14 +265,14 @@ pub record Contents : Type 0 where
 abbrev pub elf_contents : List ℕ → HeadersView → Contents
 elf_contents file headers = record {
   segments = loaded_segments_of headers.segments;
-  entry = headers.entry;
+  entry = headers.elf.header.e_entry;
   code = code_of file (loaded_segments_of headers.segments);
-  build_id = build_id_in file headers;
-  debug_link = debug_link_in file headers;
-  frames_problem = result_err (frames_in file headers);
-  loaded = module_in file headers (bytes_or_none (frames_in file headers));
-  debug_frame = debug_frame_in file headers (bytes_or_none (frames_in file headers));
-  tables = tables_of file headers;
+  build_id = build_id_in headers;
+  debug_link = debug_link_in headers.elf;
+  frames_problem = result_err (debug_frame_of headers.elf);
+  loaded = module_in headers.elf (bytes_or_none (debug_frame_of headers.elf));
+  debug_frame = debug_frame_in headers.elf (bytes_or_none (debug_frame_of headers.elf));
+  tables = tables_of headers.elf;
 }
 
 abbrev pub elf_contents_by : List ℕ → Result HeadersView ElfError → Result Contents FileProblem
@@ -315,66 +300,53 @@ identity_by (Ok (Some rsds)) = rsds.guid_and_age
 identity_by (Ok None) = []
 identity_by (Err error) = []
 
-abbrev pub identity_of : List ℕ → FileHeader → List PeSectionHeader → List ℕ
-identity_of file header sections = identity_by (rsds_of file header sections)
+abbrev pub identity_of : PeFile → List ℕ
+identity_of pe = identity_by (rsds_of pe)
 
 -- a module that lies at no address, with the unwind data of the file's sections
-abbrev pub pe_module_in : List ℕ → FileHeader → List PeSectionHeader → ModuleView
-pe_module_in file header sections = record {
+abbrev pub pe_module_in : PeFile → ModuleView
+pe_module_in pe = record {
   name = [];
   start = 0;
   end = 0;
   base_avma = 0;
-  unwind_data = unwind_data_in (λ bytes. bytes) (pe_table_of (pe_unwind_sections_of file header sections));
+  unwind_data = unwind_data_in (λ bytes. bytes) (pe_table_of (pe_unwind_sections_of pe));
 }
 
 -- the function table of a file, no bytes where it has none
-abbrev pub pdata_of : List ℕ → FileHeader → List PeSectionHeader → List ℕ
-pdata_of file header sections = unwrap_or (pe_unwind_sections_of file header sections).pdata []
+abbrev pub pdata_of : PeFile → List ℕ
+pdata_of pe = unwrap_or (pe_unwind_sections_of pe).pdata []
 
 -- the functions that a file exports, whose names lie in its export directory: a symbol table, if the directory can be read
 abbrev pub export_tables_in : FileHeader → List ℕ → Result (List ℕ) PeError → List Listed
 export_tables_in header pdata (Ok directory) = listed (exported_symbols_of header pdata directory) [] directory ∷ []
 export_tables_in header pdata (Err error) = []
 
-abbrev pub export_tables_of : List ℕ → FileHeader → List PeSectionHeader → List Listed
-export_tables_of file header sections =
-    export_tables_in header (pdata_of file header sections) (directory_bytes_of file header sections)
+abbrev pub export_tables_of : PeFile → List Listed
+export_tables_of pe = export_tables_in pe.header (pdata_of pe) (directory_bytes_of pe)
 
 -- a PE file
-abbrev pub pe_contents : List ℕ → FileHeader → List PeSectionHeader → Contents
-pe_contents file header sections = record {
-  segments = map segment_of sections;
+abbrev pub pe_contents : List ℕ → PeFile → Contents
+pe_contents file pe = record {
+  segments = map segment_of pe.sections;
   entry = 0;
-  code = code_of file (map segment_of sections);
-  build_id = identity_of file header sections;
+  code = code_of file (map segment_of pe.sections);
+  build_id = identity_of pe;
   debug_link = [];
   frames_problem = None;
-  loaded = pe_module_in file header sections;
+  loaded = pe_module_in pe;
   debug_frame = bare_module;
-  tables = export_tables_of file header sections;
+  tables = export_tables_of pe;
 }
 
--- the headers and the sections of a PE file
-unfoldable pub pe_headers_of : List ℕ → Result (FileHeader × List PeSectionHeader) PeError
-pe_headers_of file = do
-  header ← pe_file_header_of file
-  sections ← pe_section_headers_of file header
-  Ok (header, sections)
-
--- a PE file
-abbrev pub pe_contents_by : List ℕ → Result (FileHeader × List PeSectionHeader) PeError → Result Contents FileProblem
-pe_contents_by file (Ok headers) = Ok (pe_contents file headers.0 headers.1)
+abbrev pub pe_contents_by : List ℕ → Result PeFile PeError → Result Contents FileProblem
+pe_contents_by file (Ok pe) = Ok (pe_contents file pe)
 pe_contents_by file (Err error) = Err (Pe error)
 
 abbrev pub pe_contents_of : List ℕ → Result Contents FileProblem
-pe_contents_of file = pe_contents_by file (pe_headers_of file)
+pe_contents_of file = pe_contents_by file (pe_file_of file)
 
 -- ---- either
-
--- a PE file begins with "MZ"
-abbrev pub is_pe : List ℕ → Bool
-is_pe file = starts_with nat_eq file (codes "MZ")
 
 -- what a file has, an ELF file or a PE file
 abbrev pub contents_of : List ℕ → Result Contents FileProblem

@@ -4,10 +4,10 @@
 //! address: the modules of all mappings of the file share its unwind data.
 ghost use Rattle.std.specs.Prelude.{◌≡◌, ◌⊎◌, ◌↔◌, IsTrue, ℕ, List, [], ◌++◌, Some, None, Ok, Err, IfOk, IfErr, OnOk, MatchResult, option_map, option_to_list};
 ghost use Rattle.std.specs.Result.{result_err};
-ghost use Rattle.framehop_elf.specs.UnwindSections.{bytes_in, bytes_or_none};
+ghost use Rattle.framehop_elf.specs.UnwindSections.{bytes_in, bytes_or_none, debug_frame_of};
 ghost use Rattle.framehop_elf.specs.declared.error.ElfError.{ElfError};
 ghost use Rattle.framehop_memory.specs.Segment.{base_of};
-ghost use Rattle.framehop_symbols.specs.ObjectFiles.{Contents, Listed, headers_view, headers_of, build_id_in, build_id_by, debug_link_in, frames_in, contents_of, is_another, is_another_file, problem_by, problem_of, is_at_entry, symbols_in, symbols_called, listed, listed_of, tables_of, debug_tables_of, IsTable, AreTables, module_of, module_with, module_in, debug_frame_with, debug_frame_in, bare_module, export_tables_of, elf_contents_of, pe_contents_of, IsOutOfMemory, IsKeptWith, IsKeptOf};
+ghost use Rattle.framehop_symbols.specs.ObjectFiles.{Contents, Listed, headers_view, headers_of, build_id_in, build_id_by, debug_link_in, contents_of, is_another, is_another_file, problem_by, problem_of, is_at_entry, symbols_in, symbols_called, listed, listed_of, tables_of, debug_tables_of, IsTable, AreTables, module_of, module_with, module_in, debug_frame_with, debug_frame_in, bare_module, export_tables_of, elf_contents_of, pe_contents_of, IsOutOfMemory, IsKeptWith, IsKeptOf};
 ghost use Rattle.framehop_symbols.specs.Code.{code_of_object};
 ghost use Rattle.framehop_symbols.specs.MappedBytes.{mapped_sections_view};
 ghost use Rattle.framehop_symbols.specs.Found.{has_names, is_unwind_data};
@@ -28,11 +28,11 @@ use framehop::unwind_data::ModuleUnwindDataInternal;
 use framehop_bytes::string::{before_nul, string_at};
 use framehop_elf::build_id::read_build_id;
 use framehop_elf::decompressed::ContentsError;
+use framehop_elf::elf_file::ElfFile;
 use framehop_elf::error::ElfError;
 use framehop_elf::header::read_file_header;
 use framehop_elf::program_header::{ProgramHeader, read_program_headers};
-use framehop_elf::section::{read_contents, read_section_names, section_by_name};
-use framehop_elf::section_header::{SectionHeader, read_section_headers};
+use framehop_elf::section_header::SectionHeader;
 use framehop_elf::segment::loaded_segments;
 use framehop_elf::symbol::{
     Symbol, SymbolTable, read_function_symbols, read_labels, read_symbol_names,
@@ -43,8 +43,8 @@ use framehop_elf::unwind_sections::{
 use framehop_memory::segment::{Segment, base_avma};
 use framehop_pe_file::error::PeError;
 use framehop_pe_file::exports::read_export_directory;
-use framehop_pe_file::header::FileHeader;
-use framehop_pe_file::section_header::SectionHeader as PeSectionHeader;
+use framehop_pe_file::header::is_pe;
+use framehop_pe_file::pe_file::PeFile;
 use std::alloc::{AllocError, Global};
 use thiserror::Error;
 
@@ -336,7 +336,7 @@ fn read_parts<'m>(alloc: Global, bytes: &[u8], wanted: &[u8]) -> Result<ObjectFi
     ensures refused { IfErr result (λ problem. IsOutOfMemory problem
         ⊎ (problem_of bytes.now wanted.now ≡ Some problem)) }
 {
-    if pe_file::is_pe(bytes) {
+    if is_pe(bytes) {
         return read_pe(alloc, bytes, wanted);
     }
     read_elf(alloc, bytes, wanted)
@@ -351,14 +351,14 @@ fn read_pe<'m>(alloc: Global, bytes: &[u8], wanted: &[u8]) -> Result<ObjectFile<
     ensures refused { IfErr result (λ problem. IsOutOfMemory problem
         ⊎ (problem_by bytes.now wanted.now (pe_contents_of bytes.now) ≡ Some problem)) }
 {
-    let (header, sections) = pe_file::read_headers(alloc, bytes)?;
-    let identity = pe_file::identity_in(bytes, header, sections.as_slice());
+    let pe = PeFile::read(alloc, bytes)?;
+    let identity = pe_file::identity_in(&pe);
     if is_another_file(wanted, identity, bytes) {
         return Err(FileProblem::OtherBuildId);
     }
-    let module = pe_file::module_in(alloc, bytes, header, sections.as_slice())?;
-    let segments = pe_file::segments_of(alloc, sections.as_slice())?;
-    let symbols = read_exports(alloc, bytes, header, sections.as_slice())?;
+    let module = pe_file::module_in(alloc, &pe)?;
+    let segments = pe_file::segments_of(alloc, pe.sections())?;
+    let symbols = read_exports(alloc, &pe)?;
     let build_id = Vec::from_slice(alloc, identity)?;
     Ok(ObjectFile {
         segments,
@@ -374,21 +374,16 @@ fn read_pe<'m>(alloc: Global, bytes: &[u8], wanted: &[u8]) -> Result<ObjectFile<
 }
 
 /// Reads the functions that a PE file exports: none where the export directory can't be read.
-fn read_exports(
-    alloc: Global,
-    file: &[u8],
-    header: FileHeader,
-    sections: &[PeSectionHeader],
-) -> Result<Vec<Symbols>, ElfError>
-    ensures kept { IfOk result (λ all. AreTables (export_tables_of file.now header sections.now) all.items) }
+fn read_exports(alloc: Global, pe: &PeFile<'_>) -> Result<Vec<Symbols>, ElfError>
+    ensures kept { IfOk result (λ all. AreTables (export_tables_of pe.now) all.items) }
     ensures refused { IfErr result (λ error. error ≡ ElfError.OutOfMemory) }
 {
     let mut all = Vec::new(alloc);
-    let Ok(directory) = read_export_directory(file, header, sections) else {
+    let Ok(directory) = read_export_directory(pe) else {
         return Ok(all);
     };
-    let pdata = pe_file::pdata_in(file, header, sections);
-    let functions = exported_functions(alloc, header, directory, pdata)?;
+    let pdata = pe_file::pdata_in(pe);
+    let functions = exported_functions(alloc, pe.header(), directory, pdata)?;
     all.push(kept_symbols(alloc, functions, Vec::new(alloc), directory)?)?;
     Ok(all)
 }
@@ -410,20 +405,21 @@ fn read_elf<'m>(alloc: Global, bytes: &[u8], wanted: &[u8]) -> Result<ObjectFile
         ⊎ (problem_by bytes.now wanted.now (elf_contents_of bytes.now) ≡ Some problem)) }
 {
     let headers = read_headers(alloc, bytes)?;
-    let found = build_id_in(bytes, &headers);
+    let elf = &headers.elf;
+    let found = build_id_in(&headers);
     if is_another_file(wanted, found, bytes) {
         return Err(FileProblem::OtherBuildId);
     }
     let segments = loaded_segments(alloc, headers.segments.as_slice())?;
-    let symbols = read_all_symbols(alloc, bytes, &headers)?;
-    let frames = read_frames(alloc, bytes, &headers)?;
+    let symbols = read_all_symbols(alloc, elf)?;
+    let frames = read_frames(alloc, elf)?;
     let frames_problem = frames.problem;
-    let (module, debug_frame) = modules_in(alloc, bytes, &headers, frames.contents)?;
+    let (module, debug_frame) = modules_in(alloc, elf, frames.contents)?;
     let build_id = Vec::from_slice(alloc, found)?;
-    let debug_link = Vec::from_slice(alloc, debug_link_in(bytes, &headers))?;
+    let debug_link = Vec::from_slice(alloc, debug_link_in(elf))?;
     Ok(ObjectFile {
         segments,
-        entry: headers.entry,
+        entry: elf.header().e_entry,
         code: no_code(alloc),
         symbols,
         module,
@@ -435,17 +431,13 @@ fn read_elf<'m>(alloc: Global, bytes: &[u8], wanted: &[u8]) -> Result<ObjectFile
 }
 
 /// Reads the symbols of both symbol tables.
-fn read_all_symbols(
-    alloc: Global,
-    file: &[u8],
-    headers: &Headers<'_>,
-) -> Result<Vec<Symbols>, ElfError>
-    ensures kept { IfOk result (λ all. AreTables (tables_of file.now (headers_view headers.now)) all.items) }
+fn read_all_symbols(alloc: Global, elf: &ElfFile<'_>) -> Result<Vec<Symbols>, ElfError>
+    ensures kept { IfOk result (λ all. AreTables (tables_of elf.now) all.items) }
     ensures refused { IfErr result (λ error. error ≡ ElfError.OutOfMemory) }
 {
     let mut all = Vec::new(alloc);
-    push_symbols(alloc, &mut all, file, headers, b".symtab")?;
-    push_symbols(alloc, &mut all, file, headers, b".dynsym")?;
+    push_symbols(alloc, &mut all, elf, b".symtab")?;
+    push_symbols(alloc, &mut all, elf, b".dynsym")?;
     Ok(all)
 }
 
@@ -453,17 +445,14 @@ fn read_all_symbols(
 fn push_symbols(
     alloc: Global,
     all: &mut Vec<Symbols>,
-    file: &[u8],
-    headers: &Headers<'_>,
+    elf: &ElfFile<'_>,
     name: &[u8],
 ) -> Result<(), ElfError>
     ensures kept { (listed : List Listed) → AreTables listed all.old.items → OnOk result
-        (AreTables (listed ++ option_to_list (symbols_called file.now (headers_view headers.now) name.now)) all.new.items) }
+        (AreTables (listed ++ option_to_list (symbols_called elf.now name.now)) all.new.items) }
     ensures refused { IfErr result (λ error. error ≡ ElfError.OutOfMemory) }
 {
-    let sections = headers.sections.as_slice();
-    let section = section_by_name(sections, headers.names, name);
-    let Some(symbols) = read_symbols(alloc, file, sections, section)? else {
+    let Some(symbols) = read_symbols(alloc, elf, elf.section(name))? else {
         return Ok(());
     };
     Ok(all.push(symbols)?)
@@ -479,11 +468,11 @@ struct Frames {
 }
 
 /// Reads the `.debug_frame` of a file. Fails only where an allocation does.
-fn read_frames(alloc: Global, file: &[u8], headers: &Headers<'_>) -> Result<Frames, AllocError>
-    ensures contents { IfOk result (λ frames. bytes_in frames.contents ≡ bytes_or_none (frames_in file.now (headers_view headers.now))) }
-    ensures problem { IfOk result (λ frames. frames.problem ≡ result_err (frames_in file.now (headers_view headers.now))) }
+fn read_frames(alloc: Global, elf: &ElfFile<'_>) -> Result<Frames, AllocError>
+    ensures contents { IfOk result (λ frames. bytes_in frames.contents ≡ bytes_or_none (debug_frame_of elf.now)) }
+    ensures problem { IfOk result (λ frames. frames.problem ≡ result_err (debug_frame_of elf.now)) }
 {
-    match read_debug_frame(alloc, file, headers.sections.as_slice(), headers.names) {
+    match read_debug_frame(alloc, elf) {
         Ok(contents) => Ok(Frames {
             contents,
             problem: None,
@@ -500,47 +489,44 @@ fn read_frames(alloc: Global, file: &[u8], headers: &Headers<'_>) -> Result<Fram
 /// where it has `.eh_frame`, too. Without either of them the second has no unwind data.
 fn modules_in<'m>(
     alloc: Global,
-    file: &[u8],
-    headers: &Headers<'_>,
+    elf: &ElfFile<'_>,
     debug_frame: Option<Vec<u8>>,
 ) -> Result<(Module<MappedBytes<'m>>, Module<MappedBytes<'m>>), ElfError>
-    ensures loaded { IfOk result (λ made. made.0 ≡ module_in file.now (headers_view headers.now) (bytes_in debug_frame)) }
-    ensures debug_frame { IfOk result (λ made. made.1 ≡ debug_frame_in file.now (headers_view headers.now) (bytes_in debug_frame)) }
+    ensures loaded { IfOk result (λ made. made.0 ≡ module_in elf.now (bytes_in debug_frame)) }
+    ensures debug_frame { IfOk result (λ made. made.1 ≡ debug_frame_in elf.now (bytes_in debug_frame)) }
     ensures refused { IfErr result (λ error. error ≡ ElfError.OutOfMemory) }
 {
-    if has_eh_frame(file, headers.sections.as_slice(), headers.names) {
-        let module = module_in(alloc, file, headers, None)?;
-        Ok((module, debug_frame_in(alloc, headers, debug_frame)?))
+    if has_eh_frame(elf) {
+        let module = module_in(alloc, elf, None)?;
+        Ok((module, debug_frame_in(alloc, elf, debug_frame)?))
     } else {
-        let module = module_in(alloc, file, headers, debug_frame)?;
-        Ok((module, debug_frame_in(alloc, headers, None)?))
+        let module = module_in(alloc, elf, debug_frame)?;
+        Ok((module, debug_frame_in(alloc, elf, None)?))
     }
 }
 
 /// Returns a module that lies at no address, with the unwind data of the file's sections and these bytes of `.debug_frame`.
 fn module_in<'m>(
     alloc: Global,
-    file: &[u8],
-    headers: &Headers<'_>,
+    elf: &ElfFile<'_>,
     debug_frame: Option<Vec<u8>>,
 ) -> Result<Module<MappedBytes<'m>>, ElfError>
-    ensures loaded { IfOk result (λ made. made ≡ module_with file.now (headers_view headers.now) (bytes_in debug_frame)) }
+    ensures loaded { IfOk result (λ made. made ≡ module_with elf.now (bytes_in debug_frame)) }
     ensures refused { IfErr result (λ error. error ≡ ElfError.OutOfMemory) }
 {
-    let sections = headers.sections.as_slice();
-    let info = unwind_sections_with(alloc, file, sections, headers.names, debug_frame)?;
+    let info = unwind_sections_with(alloc, elf, debug_frame)?;
     Ok(module_of(alloc, kept_sections(info))?)
 }
 
 /// Returns a module that lies at no address, with these bytes of `.debug_frame`.
 fn debug_frame_in<'m>(
     alloc: Global,
-    headers: &Headers<'_>,
+    elf: &ElfFile<'_>,
     debug_frame: Option<Vec<u8>>,
 ) -> Result<Module<MappedBytes<'m>>, AllocError>
-    ensures { IfOk result (λ made. made ≡ debug_frame_with (headers_view headers.now) (bytes_in debug_frame)) }
+    ensures { IfOk result (λ made. made ≡ debug_frame_with elf.now (bytes_in debug_frame)) }
 {
-    let info = debug_frame_sections(headers.sections.as_slice(), headers.names, debug_frame);
+    let info = debug_frame_sections(elf, debug_frame);
     module_of(alloc, kept_sections(info))
 }
 
@@ -571,24 +557,19 @@ fn read_debug_symbols(
         Err(ElfError::OutOfMemory) => return Err(ElfError::OutOfMemory),
         Err(_) => return Ok(None),
     };
-    if is_another(build_id, build_id_in(file, &headers)) {
+    if is_another(build_id, build_id_in(&headers)) {
         return Ok(None);
     }
-    let sections = headers.sections.as_slice();
-    let section = section_by_name(sections, headers.names, b".symtab");
-    let symbols = read_symbols(alloc, file, sections, section)?;
+    let elf = &headers.elf;
+    let symbols = read_symbols(alloc, elf, elf.section(b".symtab"))?;
     Ok(symbols)
 }
 
-/// The segments and the sections of a file.
+/// A file with its segments.
 #[derive(Drop)]
 struct Headers<'a> {
-    /// Where a process begins in it (SVMA), or 0.
-    entry: u64,
+    elf: ElfFile<'a>,
     segments: Vec<ProgramHeader>,
-    sections: Vec<SectionHeader>,
-    /// The string table that has the names of the sections.
-    names: &'a [u8],
 }
 
 /// Reads the segments and the sections of a file.
@@ -600,14 +581,8 @@ fn read_headers<'a>(alloc: Global, file: &'a [u8]) -> Result<Headers<'a>, ElfErr
 {
     let header = read_file_header(file)?;
     let segments = read_program_headers(alloc, file, header)?;
-    let sections = read_section_headers(alloc, file, header)?;
-    let names = read_section_names(file, header, sections.as_slice())?;
-    Ok(Headers {
-        entry: header.e_entry,
-        segments,
-        sections,
-        names,
-    })
+    let elf = ElfFile::with_header(alloc, file, header)?;
+    Ok(Headers { elf, segments })
 }
 
 /// Returns whether a build id that is wanted is another.
@@ -626,15 +601,11 @@ fn is_another_file(wanted: &[u8], found: &[u8], file: &[u8]) -> bool
 }
 
 /// Returns the build id of a file, or no bytes.
-fn build_id_in<'a>(file: &'a [u8], headers: &Headers<'_>) -> &'a [u8]
-    ensures { result.now ≡ build_id_in file.entry.now (headers_view headers.now) }
+fn build_id_in<'a>(headers: &Headers<'a>) -> &'a [u8]
+    ensures { result.now ≡ build_id_in (headers_view headers.entry.now) }
 {
-    let found = read_build_id(
-        file,
-        headers.segments.as_slice(),
-        headers.sections.as_slice(),
-    );
-    match found {
+    let elf = &headers.elf;
+    match read_build_id(elf.bytes(), headers.segments.as_slice(), elf.sections()) {
         Some(build_id) => build_id,
         None => &[],
     }
@@ -643,12 +614,11 @@ fn build_id_in<'a>(file: &'a [u8], headers: &Headers<'_>) -> &'a [u8]
 /// Returns the name of a file's debug file, or no bytes: the string at the front of `.gnu_debuglink`.
 ///
 /// Source: GDB, "Debugging Information in Separate Files".
-fn debug_link_in<'a>(file: &'a [u8], headers: &Headers<'_>) -> &'a [u8]
-    ensures { result.now ≡ debug_link_in file.entry.now (headers_view headers.now) }
+fn debug_link_in<'a>(elf: &ElfFile<'a>) -> &'a [u8]
+    ensures { result.now ≡ debug_link_in elf.entry.now }
 {
-    let sections = headers.sections.as_slice();
-    match section_by_name(sections, headers.names, b".gnu_debuglink") {
-        Some(section) => match read_contents(file, section) {
+    match elf.section(b".gnu_debuglink") {
+        Some(section) => match elf.contents(section) {
             Ok(contents) => before_nul(contents),
             Err(_) => &[],
         },
@@ -660,11 +630,11 @@ fn debug_link_in<'a>(file: &'a [u8], headers: &Headers<'_>) -> &'a [u8]
 pub fn build_id_of(alloc: Global, file: &[u8]) -> Result<&[u8], AllocError>
     ensures { IfOk result (λ build_id. build_id.now ≡ build_id_by (contents_of file.entry.now)) }
 {
-    if pe_file::is_pe(file) {
+    if is_pe(file) {
         return build_id_of_pe(alloc, file);
     }
     match read_headers(alloc, file) {
-        Ok(headers) => Ok(build_id_in(file, &headers)),
+        Ok(headers) => Ok(build_id_in(&headers)),
         Err(ElfError::OutOfMemory) => Err(AllocError),
         Err(_) => Ok(&[]),
     }
@@ -674,8 +644,8 @@ pub fn build_id_of(alloc: Global, file: &[u8]) -> Result<&[u8], AllocError>
 fn build_id_of_pe(alloc: Global, file: &[u8]) -> Result<&[u8], AllocError>
     ensures { IfOk result (λ build_id. build_id.now ≡ build_id_by (pe_contents_of file.entry.now)) }
 {
-    match pe_file::read_headers(alloc, file) {
-        Ok((header, sections)) => Ok(pe_file::identity_in(file, header, sections.as_slice())),
+    match PeFile::read(alloc, file) {
+        Ok(pe) => Ok(pe_file::identity_in(&pe)),
         Err(PeError::OutOfMemory) => Err(AllocError),
         Err(_) => Ok(&[]),
     }
@@ -685,20 +655,19 @@ fn build_id_of_pe(alloc: Global, file: &[u8]) -> Result<&[u8], AllocError>
 #[tactic(auto, unfolding(crate::specs::ObjectFiles::symbols_of))]
 fn read_symbols(
     alloc: Global,
-    file: &[u8],
-    sections: &[SectionHeader],
+    elf: &ElfFile<'_>,
     section: Option<SectionHeader>,
 ) -> Result<Option<Symbols>, ElfError>
-    ensures kept { IfOk result (λ symbols. AreTables (option_to_list (symbols_in file.now sections.now section)) (option_to_list symbols)) }
+    ensures kept { IfOk result (λ symbols. AreTables (option_to_list (symbols_in elf.now section)) (option_to_list symbols)) }
     ensures refused { IfErr result (λ error. error ≡ ElfError.OutOfMemory) }
 {
     let Some(section) = section else {
         return Ok(None);
     };
-    let Ok(names) = read_symbol_names(file, sections, section) else {
+    let Ok(names) = read_symbol_names(elf, section) else {
         return Ok(None);
     };
-    match read_listed(alloc, file, sections, section, names) {
+    match read_listed(alloc, elf, section, names) {
         Ok((functions, labels)) => {
             let symbols = kept_symbols(alloc, functions, labels, names)?;
             Ok(Some(symbols))
@@ -712,17 +681,16 @@ fn read_symbols(
 #[tactic(auto, unfolding(crate::specs::ObjectFiles::listed_of))]
 fn read_listed(
     alloc: Global,
-    file: &[u8],
-    sections: &[SectionHeader],
+    elf: &ElfFile<'_>,
     table: SectionHeader,
     names: &[u8],
 ) -> Result<(Vec<Symbol>, Vec<Symbol>), ElfError>
     ensures { MatchResult result
-        (λ read. listed_of file.now sections.now table names.now ≡ Ok (listed read.0.items read.1.items names.now))
-        (λ error. (error ≡ ElfError.OutOfMemory) ⊎ (listed_of file.now sections.now table names.now ≡ Err error)) }
+        (λ read. listed_of elf.now table names.now ≡ Ok (listed read.0.items read.1.items names.now))
+        (λ error. (error ≡ ElfError.OutOfMemory) ⊎ (listed_of elf.now table names.now ≡ Err error)) }
 {
-    let functions = read_function_symbols(alloc, file, sections, table)?;
-    let labels = read_labels(alloc, file, sections, table, names)?;
+    let functions = read_function_symbols(alloc, elf, table)?;
+    let labels = read_labels(alloc, elf, table, names)?;
     Ok((functions, labels))
 }
 

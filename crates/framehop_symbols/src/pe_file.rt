@@ -1,27 +1,19 @@
 //! What is kept of a PE file.
-ghost use Rattle.std.specs.Prelude.{◌≡◌, ◌⊎◌, Ok, Err, IfOk, IfErr, MatchResult, map};
-ghost use Rattle.framehop_pe_file.specs.declared.error.PeError.{PeError};
-ghost use Rattle.framehop_symbols.specs.ObjectFiles.{segment_of, identity_by, identity_of, pe_headers_of, pe_module_in, pdata_of, is_pe};
+ghost use Rattle.std.specs.Prelude.{◌≡◌, IfOk, IfErr, map};
+ghost use Rattle.framehop_symbols.specs.ObjectFiles.{segment_of, identity_by, identity_of, pe_module_in, pdata_of};
 
 use crate::mapped_bytes::{MappedBytes, kept_pe_sections};
 use framehop::Module;
 use framehop_memory::segment::Segment;
 use framehop_pe_file::codeview::read_rsds;
 use framehop_pe_file::error::PeError;
-use framehop_pe_file::header::{FileHeader, read_file_header};
-use framehop_pe_file::section_header::{SectionHeader, read_section_headers};
+use framehop_pe_file::pe_file::PeFile;
+use framehop_pe_file::section_header::SectionHeader;
 use framehop_pe_file::unwind_sections::{lend_unwind_sections, read_unwind_sections};
 use std::alloc::{AllocError, Global};
 
 /// `IMAGE_SCN_MEM_EXECUTE`: the section may be executed.
 const EXECUTE: u32 = 0x2000_0000;
-
-/// Returns whether a file is a PE file, by its first two bytes.
-pub fn is_pe(file: &[u8]) -> bool
-    ensures { result ≡ is_pe file.now }
-{
-    file.starts_with(b"MZ")
-}
 
 /// Returns the segments that sections are loaded as.
 pub fn segments_of(alloc: Global, sections: &[SectionHeader]) -> Result<Vec<Segment>, AllocError>
@@ -47,40 +39,20 @@ fn segment_of(section: SectionHeader) -> Segment
 }
 
 /// Returns what tells a file from others of its name: the GUID and the age of its program database, or no bytes.
-pub(crate) fn identity_in<'a>(
-    file: &'a [u8],
-    header: FileHeader,
-    sections: &[SectionHeader],
-) -> &'a [u8]
-    ensures { result.now ≡ identity_of file.entry.now header sections.now }
+pub(crate) fn identity_in<'a>(pe: &PeFile<'a>) -> &'a [u8]
+    ensures { result.now ≡ identity_of pe.entry.now }
 {
-    match read_rsds(file, header, sections) {
+    match read_rsds(pe) {
         Ok(Some(rsds)) => rsds.guid_and_age,
         _ => &[],
     }
 }
 
-/// Reads the headers and the sections of a file.
-#[tactic(auto, unfolding(crate::specs::ObjectFiles::pe_headers_of))]
-pub fn read_headers(alloc: Global, file: &[u8]) -> Result<(FileHeader, Vec<SectionHeader>), PeError>
-    ensures { MatchResult result
-        (λ headers. pe_headers_of file.now ≡ Ok (headers.0, headers.1.items))
-        (λ error. (error ≡ PeError.OutOfMemory) ⊎ (pe_headers_of file.now ≡ Err error)) }
-{
-    let header = read_file_header(file)?;
-    let sections = read_section_headers(alloc, file, header)?;
-    Ok((header, sections))
-}
-
 /// Returns the function table of a file, no bytes where it has none.
-pub(crate) fn pdata_in<'a>(
-    file: &'a [u8],
-    header: FileHeader,
-    sections: &[SectionHeader],
-) -> &'a [u8]
-    ensures { result.now ≡ pdata_of file.entry.now header sections.now }
+pub(crate) fn pdata_in<'a>(pe: &PeFile<'a>) -> &'a [u8]
+    ensures { result.now ≡ pdata_of pe.entry.now }
 {
-    match lend_unwind_sections(file, header, sections).pdata {
+    match lend_unwind_sections(pe).pdata {
         Some(pdata) => pdata,
         None => &[],
     }
@@ -89,14 +61,12 @@ pub(crate) fn pdata_in<'a>(
 /// Returns a module of a file that lies at no address.
 pub(crate) fn module_in<'m>(
     alloc: Global,
-    file: &[u8],
-    header: FileHeader,
-    sections: &[SectionHeader],
+    pe: &PeFile<'_>,
 ) -> Result<Module<MappedBytes<'m>>, PeError>
-    ensures loaded { IfOk result (λ made. made ≡ pe_module_in file.now header sections.now) }
+    ensures loaded { IfOk result (λ made. made ≡ pe_module_in pe.now) }
     ensures refused { IfErr result (λ error. error ≡ PeError.OutOfMemory) }
 {
-    let info = read_unwind_sections(alloc, file, header, sections)?;
+    let info = read_unwind_sections(alloc, pe)?;
     let info = kept_pe_sections(info);
     match Module::new(alloc, String::new(alloc), 0..0, 0, info) {
         Ok(made) => Ok(made),

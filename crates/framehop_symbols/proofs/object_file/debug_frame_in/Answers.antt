@@ -6,6 +6,5 @@ use Rattle.framehop_symbols.proofs.object_file.debug_frame_in.Goals as goal
 
 pub returns : goal.returns
 returns c =
-    let headers = c.args.headers.now in
-    let exact : mapped_sections_view c.kept_sections.result ≡ debug_frame_sections_of headers.sections.items headers.names.now (bytes_in c.args.debug_frame) = search rules in
+    let exact : mapped_sections_view c.kept_sections.result ≡ debug_frame_sections_of c.args.elf.now (bytes_in c.args.debug_frame) = search rules in
     subst (λ found. IfOk c.module_of.result (λ made. made ≡ found)) (ap module_of exact) c.module_of.ensures

@@ -6,7 +6,6 @@ use Rattle.framehop_symbols.proofs.object_file.module_in.Goals as goal
 
 pub returns-clause-loaded : goal.returns-clause-loaded
 returns-clause-loaded c =
-    let headers = c.args.headers.now in
-    let exact : mapped_sections_view c.kept_sections.result ≡ unwind_sections_of c.args.file.now headers.sections.items headers.names.now (bytes_in c.args.debug_frame) = search rules in
+    let exact : mapped_sections_view c.kept_sections.result ≡ unwind_sections_of c.args.elf.now (bytes_in c.args.debug_frame) = search rules in
     let same = ap module_of exact in
     search (rules, same)

@@ -1,37 +1,33 @@
 use Rattle.std.proofs.Common.{rules, ◌≡◌, ◌∙◌, true, false, None}
 use Rattle.framehop_elf.specs.UnwindSections.{bytes_in, has_eh_frame}
-use Rattle.framehop_symbols.specs.ObjectFiles.{headers_view, module_with, debug_frame_with}
+use Rattle.framehop_symbols.specs.ObjectFiles.{module_with, debug_frame_with}
 use Rattle.framehop_symbols.proofs.FrameLemmas.{chosen, not-chosen}
 use Rattle.framehop_symbols.proofs.object_file.modules_in.Goals as goal
 
 pub returns-in_ok-debug_frame_in-clause-loaded : goal.returns-in_ok-debug_frame_in-clause-loaded
 returns-in_ok-debug_frame_in-clause-loaded c =
-    let file = c.args.file.now in
-    let headers = headers_view c.args.headers.now in
+    let elf = c.args.elf.now in
     let frames = bytes_in c.args.debug_frame in
-    let is : has_eh_frame file headers.sections headers.names ≡ true = search rules in
-    c.in_ok-module.ensures.loaded ∙ chosen (has_eh_frame file headers.sections headers.names) (module_with file headers) None frames is
+    let is : has_eh_frame elf ≡ true = search rules in
+    c.in_ok-module.ensures.loaded ∙ chosen (has_eh_frame elf) (module_with elf) None frames is
 
 pub returns-in_ok-debug_frame_in-clause-debug_frame : goal.returns-in_ok-debug_frame_in-clause-debug_frame
 returns-in_ok-debug_frame_in-clause-debug_frame c =
-    let file = c.args.file.now in
-    let headers = headers_view c.args.headers.now in
+    let elf = c.args.elf.now in
     let frames = bytes_in c.args.debug_frame in
-    let is : has_eh_frame file headers.sections headers.names ≡ true = search rules in
-    c.in_ok-debug_frame_in.ensures ∙ chosen (has_eh_frame file headers.sections headers.names) (debug_frame_with headers) frames None is
+    let is : has_eh_frame elf ≡ true = search rules in
+    c.in_ok-debug_frame_in.ensures ∙ chosen (has_eh_frame elf) (debug_frame_with elf) frames None is
 
 pub returns-in_ok-debug_frame_in-2-clause-loaded : goal.returns-in_ok-debug_frame_in-2-clause-loaded
 returns-in_ok-debug_frame_in-2-clause-loaded c =
-    let file = c.args.file.now in
-    let headers = headers_view c.args.headers.now in
+    let elf = c.args.elf.now in
     let frames = bytes_in c.args.debug_frame in
-    let is : has_eh_frame file headers.sections headers.names ≡ false = search rules in
-    c.in_ok-module-2.ensures.loaded ∙ not-chosen (has_eh_frame file headers.sections headers.names) (module_with file headers) None frames is
+    let is : has_eh_frame elf ≡ false = search rules in
+    c.in_ok-module-2.ensures.loaded ∙ not-chosen (has_eh_frame elf) (module_with elf) None frames is
 
 pub returns-in_ok-debug_frame_in-2-clause-debug_frame : goal.returns-in_ok-debug_frame_in-2-clause-debug_frame
 returns-in_ok-debug_frame_in-2-clause-debug_frame c =
-    let file = c.args.file.now in
-    let headers = headers_view c.args.headers.now in
+    let elf = c.args.elf.now in
     let frames = bytes_in c.args.debug_frame in
-    let is : has_eh_frame file headers.sections headers.names ≡ false = search rules in
-    c.in_ok-debug_frame_in-2.ensures ∙ not-chosen (has_eh_frame file headers.sections headers.names) (debug_frame_with headers) frames None is
+    let is : has_eh_frame elf ≡ false = search rules in
+    c.in_ok-debug_frame_in-2.ensures ∙ not-chosen (has_eh_frame elf) (debug_frame_with elf) frames None is

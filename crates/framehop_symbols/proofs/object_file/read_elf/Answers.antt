@@ -1,7 +1,7 @@
 use Rattle.std.proofs.Common.{rules, ◌≡◌, Ok, ap, ◌∙◌}
 use Rattle.framehop_elf.specs.Segment.{loaded_segments_of}
-use Rattle.framehop_elf.specs.UnwindSections.{bytes_in, bytes_or_none}
-use Rattle.framehop_symbols.specs.ObjectFiles.{headers_view, headers_of, code_of, frames_in, module_in, debug_frame_in, elf_contents, elf_contents_by}
+use Rattle.framehop_elf.specs.UnwindSections.{bytes_in, bytes_or_none, debug_frame_of}
+use Rattle.framehop_symbols.specs.ObjectFiles.{headers_view, headers_of, code_of, module_in, debug_frame_in, elf_contents, elf_contents_by}
 use Rattle.framehop_symbols.proofs.object_file.read_elf.Goals as goal
 
 pub returns-clause-kept : goal.returns-clause-kept
@@ -9,9 +9,9 @@ returns-clause-kept c =
     let file = c.args.bytes.now in
     let view = headers_view c.in_ok-headers.headers in
     let read : headers_of file ≡ Ok view = search rules in
-    let contents : bytes_in c.in_ok-frames.frames.contents ≡ bytes_or_none (frames_in file view) = search rules in
-    let loaded = ap (module_in file view) contents in
-    let debug_frame = ap (debug_frame_in file view) contents in
+    let contents : bytes_in c.in_ok-frames.frames.contents ≡ bytes_or_none (debug_frame_of view.elf) = search rules in
+    let loaded = ap (module_in view.elf) contents in
+    let debug_frame = ap (debug_frame_in view.elf) contents in
     let listed : c.in_ok-segments.segments.items ≡ loaded_segments_of view.segments = search rules in (
       elf_contents file view,
       ap (elf_contents_by file) read,

@@ -1,15 +1,15 @@
 use Rattle.std.proofs.Common.{rules, ◌≡◌, Ok, map, ap, ◌∙◌}
-use Rattle.framehop_symbols.specs.ObjectFiles.{segment_of, code_of, pe_headers_of, pe_contents, pe_contents_by}
+use Rattle.framehop_pe_file.specs.PeFile.{pe_file_of}
+use Rattle.framehop_symbols.specs.ObjectFiles.{segment_of, code_of, pe_contents, pe_contents_by}
 use Rattle.framehop_symbols.proofs.object_file.read_pe.Goals as goal
 
 pub returns-clause-kept : goal.returns-clause-kept
 returns-clause-kept c =
     let file = c.args.bytes.now in
-    let header = c.in_ok-header.header in
-    let sections = c.in_ok-header.sections.items in
-    let read : pe_headers_of file ≡ Ok (header, sections) = search rules in
-    let listed : c.in_ok-segments.segments.items ≡ map segment_of sections = search rules in (
-      pe_contents file header sections,
+    let pe = c.in_ok-pe.pe in
+    let read : pe_file_of file ≡ Ok pe = search rules in
+    let listed : c.in_ok-segments.segments.items ≡ map segment_of pe.sections = search rules in (
+      pe_contents file pe,
       ap (pe_contents_by file) read,
       λ code same. record {
         segments = search rules;

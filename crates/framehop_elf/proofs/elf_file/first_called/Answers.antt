@@ -4,7 +4,7 @@ use Rattle.std.proofs.lemmas.Iterator.{YieldsList-from_slice}
 use Rattle.std.proofs.lemmas.Iterator.Search.{find_from_yields_List}
 use Rattle.framehop_bytes.specs.String.{string_of}
 use Rattle.framehop_elf.specs.declared.section_header.SectionHeader.{SectionHeader}
-use Rattle.framehop_elf.proofs.section.section_by_name.Goals as goal
+use Rattle.framehop_elf.proofs.elf_file.first_called.Goals as goal
 
 pub returns : goal.returns
 returns c =

@@ -1,7 +1,7 @@
 use Rattle.std.proofs.Common.{◌≡◌, ℕ, suc, ◌+◌, ◌<◌, ◌==◌, true, false, List, ◌∷◌, length, drop, get_or, ap, ◌∙◌, arith, rules}
 use Rattle.std.proofs.Math.Seq.{drop-cons}
 use Rattle.framehop_elf.proofs.StringLemmas.{is_name, name-more}
-use Rattle.framehop_elf.proofs.section.is_string.Goals as goal
+use Rattle.framehop_elf.proofs.elf_file.is_string.Goals as goal
 
 left-are : (bytes : List ℕ) (i : ℕ) → i < length bytes → drop i bytes ≡ get_or bytes i 0 ∷ drop (i + 1) bytes
 left-are bytes i within =

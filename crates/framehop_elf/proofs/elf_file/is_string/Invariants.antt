@@ -1,6 +1,6 @@
 use Rattle.std.proofs.Common.{◌≡◌, drop}
 use Rattle.framehop_elf.proofs.StringLemmas.{is_name}
-use Rattle.framehop_elf.proofs.section.is_string.Given as goal
+use Rattle.framehop_elf.proofs.elf_file.is_string.Given as goal
 
 -- what is left of the bytes and of the name decides
 abbrev pub invariant-loop-index : goal.invariant-loop-index
