@@ -1,2 +1,3 @@
--- What the contracts of this crate cite: with which status a program ends.
+-- What the contracts of this crate cite: with which status a program ends, and how names are printed.
 pub mod Status
+pub mod Printed

@@ -1,4 +1,9 @@
 //! Names that others gave, as they are printed.
+ghost use Rattle.std.specs.Prelude.{◌≡◌, Some};
+ghost use Rattle.std.specs.Fmt.{WritesOnOk};
+ghost use Rattle.std.specs.List.{flat_map};
+ghost use Rattle.framehop_cli.specs.Printed.{is_unseen, byte_text, character_text, printed_name};
+
 use std::fmt;
 
 /// How many bytes of a name are printed.
@@ -11,6 +16,8 @@ const LONGEST_NAME: usize = 2048;
 pub struct Printed<'a>(pub &'a str);
 
 impl fmt::Display for Printed<'_> {
+    ghost output = { λ name. Some (printed_name name.0.now) };
+
     fn fmt<W: fmt::Write>(&self, f: &mut fmt::Formatter<W>) -> fmt::Result {
         let mut left = LONGEST_NAME;
         for character in self.0.chars() {
@@ -26,20 +33,39 @@ impl fmt::Display for Printed<'_> {
 }
 
 /// Prints a character of a name.
-fn print_character<W: fmt::Write>(character: char, f: &mut fmt::Formatter<W>) -> fmt::Result {
-    if !character.is_control() && !is_unseen(character) {
-        return f.write_char(character);
+fn print_character<W: fmt::Write>(character: char, f: &mut fmt::Formatter<W>) -> fmt::Result
+    ensures { WritesOnOk W.write_str_gives f.old result (character_text character) f.new }
+{
+    if character.is_control() || is_unseen(character) {
+        return print_bytes(character.encode_utf8(&mut [0; 4]).as_bytes(), f);
     }
-    for byte in character.encode_utf8(&mut [0; 4]).bytes() {
-        write!(f, "\\x{byte:02x}")?;
+    f.write_char(character)
+}
+
+/// Prints bytes, each as `\xNN`.
+fn print_bytes<W: fmt::Write>(bytes: &[u8], f: &mut fmt::Formatter<W>) -> fmt::Result
+    ensures { WritesOnOk W.write_str_gives f.old result (flat_map byte_text bytes.now) f.new }
+{
+    for byte in bytes {
+        print_byte(*byte, f)?;
     }
     Ok(())
+}
+
+/// Prints a byte as `\xNN`.
+fn print_byte<W: fmt::Write>(byte: u8, f: &mut fmt::Formatter<W>) -> fmt::Result
+    ensures { WritesOnOk W.write_str_gives f.old result (byte_text byte) f.new }
+{
+    let (high, low) = (byte / 16, byte % 16);
+    write!(f, "\\x{high:x}{low:x}")
 }
 
 /// Returns whether a character is not seen, ends a line or turns the order in which a line is read: of the characters of
 /// Unicode's general categories Cf, Zl and Zp those of the blocks General Punctuation and Arabic Presentation Forms-B, and
 /// the soft hyphen.
-fn is_unseen(character: char) -> bool {
+fn is_unseen(character: char) -> bool
+    ensures { result ≡ is_unseen character }
+{
     matches!(
         character,
         '\u{ad}' | '\u{200b}'..='\u{200f}' | '\u{2028}'..='\u{202e}' | '\u{2060}'..='\u{206f}' | '\u{feff}'
