@@ -10,6 +10,8 @@ mod command_line;
 #[cfg(test)]
 mod commands;
 #[cfg(test)]
+mod files;
+#[cfg(test)]
 mod kinds;
 #[cfg(test)]
 mod lent_words;
@@ -33,6 +35,8 @@ mod rule_text;
 mod section_info;
 #[cfg(test)]
 mod sections;
+#[cfg(test)]
+mod small;
 #[cfg(test)]
 mod stack_bytes;
 #[cfg(test)]

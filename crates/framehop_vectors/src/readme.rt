@@ -1,4 +1,8 @@
 //! The examples of docs/EXAMPLES.md, as they are printed there, and a walk on aarch64.
+
+mod elf;
+mod minidump;
+
 use crate::unwinders::{Aarch64, binary, holds, read_stack, sections_of_binary};
 use framehop::aarch64::{CacheAarch64, UnwindRegsAarch64, UnwinderAarch64};
 use framehop::x86_64::{CacheX86_64, UnwindRegsX86_64, UnwinderX86_64};
@@ -72,13 +76,14 @@ fn frames_of_stack(
     let mut unwinder: UnwinderX86_64<Vec<u8>> = UnwinderX86_64::new(alloc, &mut generations)?;
 
     // Where the file is in the process: its code, and its base.
+    let sections = sections_of_file(eh_frame);
     let name = String::from_str(alloc, "libexample.so")?;
     let module = Module::new(
         alloc,
         name,
         0x7f0000001000..0x7f0000003000,
         0x7f0000000000,
-        sections_of_file(eh_frame),
+        sections,
     )?;
     if let Err(refused) = unwinder.add_module(module, &mut generations) {
         // The module comes back in `refused.module`.

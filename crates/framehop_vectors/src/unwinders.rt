@@ -112,9 +112,10 @@ impl Aarch64 {
     }
 }
 
-/// An unwinder of x86_64 and a cache, of an allocation policy.
+/// An unwinder of x86_64 and a cache, of an allocation policy, and the counter of both.
 #[derive(Drop)]
 pub(crate) struct X86_64<P: AllocationPolicy> {
+    pub(crate) generations: Generations,
     pub(crate) unwinder: UnwinderX86_64<Vec<u8>, P>,
     pub(crate) cache: CacheX86_64<P>,
 }
@@ -126,6 +127,18 @@ impl<P: AllocationPolicy> X86_64<P> {
         let Ok(cache) = CacheX86_64::new_in(alloc) else {
             return Err(ModuleListError::OutOfMemory);
         };
-        Ok(X86_64 { unwinder, cache })
+        Ok(X86_64 {
+            generations,
+            unwinder,
+            cache,
+        })
+    }
+
+    /// Adds a module: whether it is added.
+    pub(crate) fn adds(&mut self, module: Module<Vec<u8>>) -> bool {
+        match self.unwinder.add_module(module, &mut self.generations) {
+            Ok(()) => true,
+            Err(_refused) => false,
+        }
     }
 }
