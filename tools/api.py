@@ -20,7 +20,7 @@ TOP = Path(__file__).resolve().parent.parent
 # the modules of `framehop` whose names its user has from the crates below
 ENTRANCES = ["framehop", "framehop::x86_64", "framehop::aarch64"]
 # those that are public for other crates of this repository, by which its user unwinds nothing
-INNER = ["framehop::unwind_by_data", "framehop::unwind_data"]
+INNER = ["framehop::lookup", "framehop::unwind_data"]
 ITEM = re.compile(r"(\s*)pub (?:const |extern \"C\" )?(fn|struct|enum|trait|const|type) (\w+)")
 BLOCK = re.compile(r"(\s*)(?:pub )?(impl|trait)\b(.*)")
 METHOD = re.compile(r"(\s*)(pub )?(?:final )?(?:const )?fn (\w+)")

@@ -1,7 +1,7 @@
 -- The call frame section of a module: the FDE that it has for a relative address, and what that gives (framehop
 -- 0.16.0, `ModuleUnwindDataInternal` and `DwarfUnwinder`).
 -- The header: LSB, ".eh_frame_hdr".
-use Rattle.std.specs.Prelude.{ℕ, ◌+◌, List, Bool, false, Option, Some, None, option_and_then, Result, Ok, Err}
+use Rattle.std.specs.Prelude.{ℕ, ◌+◌, List, Bool, Option, Some, None, Result, Ok, Err}
 use Rattle.framehop_core.specs.Memory.{Memory}
 use Rattle.framehop_cfi.specs.Section.{Section, section_of}
 use Rattle.framehop_cfi.specs.declared.entry.UnwindSectionType.TheVariants.{EhFrame}
@@ -9,7 +9,6 @@ use Rattle.framehop_cfi.specs.declared.pointer.BaseAddresses.{BaseAddresses}
 use Rattle.framehop_cfi.specs.Header.{Header, fde_offset_in}
 use Rattle.framehop_cfi.specs.Row.{Row}
 use Rattle.framehop_dwarf.specs.Index.{pairs_of, fde_offset_for}
-use Rattle.framehop_dwarf.specs.MayTakeMemory.{may_take_memory}
 use Rattle.framehop_dwarf.specs.Unwinder.{Reading, reading_of, found_by, direct_by, header_bases}
 use Rattle.framehop_cfi.specs.declared.dwarf_error.DwarfUnwinderError.{DwarfUnwinderError}
 use Rattle.framehop_dwarf.specs.declared.index.DwarfCfiIndexError.{DwarfCfiIndexError}
@@ -78,16 +77,3 @@ unfoldable pub fde_answer : {Rule Regs : Type 0} → RowReader Rule Regs → Pol
     → Option (Fresh Rule Regs)
 fde_answer reader policy section address first offset =
     answer_of_reading reader policy section.bytes first (reading_of policy.rows section address offset)
-
--- what the section gives for a relative address in a frame of this kind, if anything
-abbrev pub frames_answer : {Rule Regs : Type 0} → RowReader Rule Regs → Policy → CallFrames → ℕ → Bool
-    → Option (Fresh Rule Regs)
-frames_answer reader policy frames relative first =
-    option_and_then (fde_answer reader policy frames.section (frames.base_svma + relative) first)
-    (fde_offset_of frames relative)
-
--- finding that out by the FDE at an offset, if there is one, may take memory
-abbrev pub fde_may_take_memory : Policy → CallFrames → ℕ → Option ℕ → Bool
-fde_may_take_memory policy frames relative None = false
-fde_may_take_memory policy frames relative (Some offset) =
-    may_take_memory policy.rows policy.values frames.section (frames.base_svma + relative) offset

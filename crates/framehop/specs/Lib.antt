@@ -9,6 +9,7 @@
 -- - *sound*: of a cache and an unwinder: each entry of its generation is what its modules give afresh
 -- - *transparent*: of a cached world: each cache is sound for each unwinder, and generations tell lists of modules
 --   apart
+-- - *entry*: of an address: what a frame there is unwound by: an FDE, a rule of compact unwind info, or PE unwind info
 -- - *location*: of a frame: an address with its kind, an instruction pointer or a return address
 -- - *place*: where halving ends in a table's rows
 -- - *block*: 2^n addresses from a multiple of 2^n on, for which an index has one place where a look-up begins
@@ -23,6 +24,9 @@ pub mod TextData
 pub mod PlacedData
 pub mod UnwindData
 pub mod Policy
+pub mod Lookup
+pub mod Found
+pub mod Parts
 pub mod Unwinding
 pub mod Told
 pub mod Fresh

@@ -1,17 +1,19 @@
 -- What an architecture makes of rules and modules: the one record by which steps, walks, caches and sessions are
 -- defined.
 -- (framehop 0.16.0, `Unwinding`.)
-use Rattle.std.specs.Prelude.{◌≡◌, ℕ, ◌<◌, Bool, true, false, Option, Some, None, Result}
+use Rattle.std.specs.Prelude.{◌≡◌, ℕ, ◌+◌, ◌<◌, Bool, true, false, Option, Some, None, Result, Ok, Err}
 use Rattle.framehop_core.specs.Memory.{Memory}
 use Rattle.framehop_core.specs.Outcome.{Outcome, answered}
 use Rattle.framehop_pe.specs.Sections.{Sections}
 use Rattle.framehop_pe.specs.declared.pe.PeUnwinderError.{PeUnwinderError}
-use Rattle.framehop_macho.specs.Unwinder.{CompactReader, unwound}
+use Rattle.framehop_macho.specs.Unwinder.{CompactReader}
+use Rattle.framehop_dwarf.specs.MayTakeMemory.{may_take_memory}
 use Rattle.framehop.specs.Policy.{Policy}
-use Rattle.framehop.specs.Compact.{compact_answer, info_may_take_memory}
-use Rattle.framehop.specs.Answer.{Fresh, direct, fresh_of}
-use Rattle.framehop.specs.CallFrames.{RowReader, frames_answer, fde_offset_of, fde_may_take_memory}
-use Rattle.framehop.specs.Modules.{ModuleView, UnwindData, no_unwind_data, call_frames, pe_sections, compact_info}
+use Rattle.framehop.specs.Answer.{Fresh, by_rule, direct, fresh_of}
+use Rattle.framehop.specs.CallFrames.{RowReader, fde_answer}
+use Rattle.framehop.specs.Lookup.{EntryAt, fde_entry, rule_entry, pe_entry, entry_at}
+use Rattle.framehop.specs.Modules.{ModuleView}
+use Rattle.framehop.specs.declared.modules.UnwinderError.{UnwinderError}
 
 -- `outcome`: what a rule does to a frame, a first one (`true`) or another. `fallback`: the rule where nothing is known.
 -- `module_answer`: what the unwind data of a module gives for a relative address in a frame of this kind, if anything.
@@ -38,33 +40,33 @@ pe_answer readers sections relative first =
     fresh_of (readers.pe_found sections relative first)
     (λ regs memory. readers.pe_computed sections relative first memory regs)
 
--- what unwind data gives for a relative address in a frame of this kind, if anything
-abbrev pub data_answer : {Rule Regs : Type 0} → Readers Rule Regs → Policy → UnwindData → ℕ → Bool
-    → Option (Fresh Rule Regs)
-data_answer readers policy (no_unwind_data refusal) relative first = None
-data_answer readers policy (call_frames frames) relative first = frames_answer readers.rows policy frames relative first
-data_answer readers policy (pe_sections sections) relative first = pe_answer readers sections relative first
-data_answer readers policy (compact_info d) relative first =
-    compact_answer readers.compact readers.rows policy d relative first
+-- what a frame of this kind is unwound by gives for a relative address, if anything
+abbrev pub entry_answer : {Rule Regs : Type 0} → Readers Rule Regs → Policy → ℕ → Bool
+    → Result (EntryAt Rule) UnwinderError → Option (Fresh Rule Regs)
+entry_answer readers policy relative first (Ok (fde_entry fde)) =
+    fde_answer readers.rows policy fde.section (fde.base_svma + relative) first fde.offset
+entry_answer readers policy relative first (Ok (rule_entry rule)) = Some (by_rule rule)
+entry_answer readers policy relative first (Ok (pe_entry sections)) = pe_answer readers sections relative first
+entry_answer readers policy relative first (Err error) = None
 
 -- finding that out may take memory: by the row of an FDE only
-abbrev pub data_may_take_memory : {Rule Regs : Type 0} → Readers Rule Regs → Policy → UnwindData → ℕ → Bool → Bool
-data_may_take_memory readers policy (no_unwind_data refusal) relative first = false
-data_may_take_memory readers policy (call_frames frames) relative first =
-    fde_may_take_memory policy frames relative (fde_offset_of frames relative)
-data_may_take_memory readers policy (pe_sections sections) relative first = false
-data_may_take_memory readers policy (compact_info d) relative first =
-    info_may_take_memory policy d.frames relative (unwound readers.compact d.info relative first)
+abbrev pub entry_may_take_memory : {Rule : Type 0} → Policy → ℕ → Result (EntryAt Rule) UnwinderError → Bool
+entry_may_take_memory policy relative (Ok (fde_entry fde)) =
+    may_take_memory policy.rows policy.values fde.section (fde.base_svma + relative) fde.offset
+entry_may_take_memory policy relative (Ok (rule_entry rule)) = false
+entry_may_take_memory policy relative (Ok (pe_entry sections)) = false
+entry_may_take_memory policy relative (Err error) = false
 
 -- what the unwind data of a module gives
 unfoldable pub answer_by : {Rule Regs : Type 0} → Readers Rule Regs → Policy → ModuleView → ℕ → Bool
     → Option (Fresh Rule Regs)
-answer_by readers policy m relative first = data_answer readers policy m.unwind_data relative first
+answer_by readers policy m relative first =
+    entry_answer readers policy relative first (entry_at readers.compact m.unwind_data relative first)
 
 -- whether reading it may take memory
 unfoldable pub may_take_memory_by : {Rule Regs : Type 0} → Readers Rule Regs → Policy → ModuleView → ℕ → Bool → Bool
 may_take_memory_by readers policy m relative first =
-    data_may_take_memory readers policy m.unwind_data relative first
+    entry_may_take_memory policy relative (entry_at readers.compact m.unwind_data relative first)
 
 -- that is so where it is said: a rule's step, and computed values, raise the stack pointer
 pub record RisesAsSaid {Rule Regs : Type 0} (unwinding : Unwinding Rule Regs) : Type 0 where

@@ -30,8 +30,8 @@
 //!   processor's registers.
 //! - The starts of modules are in a list of their own, in the same order: a search reads eight
 //!   bytes a module that it passes.
-//! - `Module::unwind_by_data` is one flat `match` over the kinds of unwind data: each arm hands on
-//!   its arguments and does nothing else.
+//! - Which unwind data answers an address is decided in `lookup` only, and inlined into
+//!   `Module::unwind_by_data`, where each arm hands on its arguments and does nothing else.
 //! - The words of a command are the whole memory of its step or walk.
 //! - Tried: a miss that is called and not inlined (3 ns more a frame: its handle goes over memory);
 //!   a list of modules instead of pointers and a list of starts (two to six times the time to add
@@ -44,10 +44,11 @@ pub mod cache;
 pub mod dwarf;
 mod frame_answer;
 pub mod iterator;
+pub mod lookup;
 mod module_list;
 pub mod modules;
 pub mod session;
-pub mod unwind_by_data;
+mod unwind_by_data;
 pub mod unwind_data;
 pub mod unwinder;
 pub mod unwinder_internal;

@@ -17,9 +17,9 @@ ghost use Rattle.framehop.specs.Modules.{IsMade, covering};
 
 use crate::cache::{AllocationPolicy, Cache};
 use crate::frame_answer::{FrameAnswer, frame_answer};
+use crate::lookup::Lookup;
 use crate::module_list::ModuleList;
 use crate::modules::{Module, ModuleListError};
-use crate::unwind_by_data::Lookup;
 use crate::unwinder::{RefusedModule, Unwinder};
 use crate::unwinding::Unwinding;
 use framehop_bytes::section::SectionBytes;

@@ -1,7 +1,6 @@
 -- What the proofs of this crate share.
 pub mod BacktraceLemmas
 pub mod ColumnsLemmas
-pub mod CoversLemmas
 pub mod InfoLemmas
 pub mod KeptLemmas
 pub mod LibraryLemmas

@@ -1,30 +1,20 @@
 -- Which functions unwind data covers.
-use Rattle.std.specs.Prelude.{ℕ, ◌+◌, ◌-◌, Bool, true, false, List, Option, Some, None, Result, Ok, Err}
-use Rattle.framehop_cfi.specs.Entry.{fde_at}
-use Rattle.framehop_cfi.specs.RowAt.{covers}
-use Rattle.framehop_cfi.specs.declared.entry.FrameDescriptionEntry.{FrameDescriptionEntry}
-use Rattle.framehop_cfi.specs.declared.read_error.ReadError.{ReadError}
-use Rattle.framehop.specs.CallFrames.{CallFrames, fde_offset_of}
-use Rattle.framehop.specs.Modules.{ModuleView, UnwindData, no_unwind_data, call_frames, pe_sections, compact_info, covering}
+use Rattle.std.specs.Prelude.{ℕ, ◌-◌, Bool, true, false, is_some, List, Option, Some, None, Result, Ok, Err}
+use Rattle.framehop.specs.Lookup.{DataAt, fde_data, compact_data, pe_data, covering_fde, data_at}
+use Rattle.framehop.specs.Modules.{ModuleView, UnwindData, covering}
+use Rattle.framehop.specs.declared.modules.UnwinderError.{UnwinderError}
 
--- an FDE that was read covers an address, an SVMA
-abbrev pub is_covered_by : ℕ → Result FrameDescriptionEntry ReadError → Bool
-is_covered_by address (Ok fde) = covers fde address
-is_covered_by address (Err error) = false
-
--- the FDE at an offset covers a relative address
-abbrev pub is_covered_at : CallFrames → ℕ → Option ℕ → Bool
-is_covered_at frames relative (Some offset) =
-    is_covered_by (frames.base_svma + relative) (fde_at frames.section offset)
-is_covered_at frames relative None = false
-
--- Unwind data of a module covers a relative address. PE and compact unwind info are made by compilers, for all of a
+-- The data that answers a relative address covers it. PE and compact unwind info are made by compilers, for all of a
 -- module's code.
+abbrev pub is_covered_by : ℕ → Result DataAt UnwinderError → Bool
+is_covered_by relative (Ok (fde_data fde)) = is_some (covering_fde fde relative)
+is_covered_by relative (Ok (compact_data d)) = true
+is_covered_by relative (Ok (pe_data sections)) = true
+is_covered_by relative (Err error) = false
+
+-- unwind data of a module covers a relative address
 abbrev pub is_covered_in : UnwindData → ℕ → Bool
-is_covered_in (call_frames frames) relative = is_covered_at frames relative (fde_offset_of frames relative)
-is_covered_in (compact_info d) relative = true
-is_covered_in (pe_sections sections) relative = true
-is_covered_in (no_unwind_data refusal) relative = false
+is_covered_in unwind_data relative = is_covered_by relative (data_at unwind_data relative)
 
 abbrev pub is_covered_of : ℕ → Option ModuleView → Bool
 is_covered_of address (Some m) = is_covered_in m.unwind_data (address - m.base_avma)

@@ -1,14 +1,14 @@
 -- What the modules' call frame information has for a frame.
-use Rattle.std.specs.Prelude.{⊤, ℕ, ◌+◌, ◌-◌, Bool, List, Option, Some, None, Ok, Err}
+use Rattle.std.specs.Prelude.{⊤, ℕ, ◌+◌, ◌-◌, Bool, List, Option, Some, None, Result, Ok, Err}
 use Rattle.framehop_core.specs.CodeAddress.{FrameLocation, lookup_address, is_first_frame}
 use Rattle.framehop_cfi.specs.Row.{Row}
 use Rattle.framehop_cfi.specs.declared.storage.StorageLimits.{StorageLimits}
 use Rattle.framehop_dwarf.specs.Unwinder.{Reading, unread, uncovered as reads_uncovered, by_row as reads_row, reading_of}
-use Rattle.framehop_macho.specs.Answer.{Answer}
-use Rattle.framehop_macho.specs.Unwinder.{CompactReader, unwound}
-use Rattle.framehop_macho.specs.declared.macho.CuiUnwindResult.TheVariants.{ExecRule, NeedDwarf}
-use Rattle.framehop.specs.CallFrames.{CallFrames, fde_offset_of}
-use Rattle.framehop.specs.Modules.{ModuleView, UnwindData, no_unwind_data, call_frames, pe_sections, compact_info, covering}
+use Rattle.framehop_macho.specs.Unwinder.{CompactReader}
+use Rattle.framehop.specs.Lookup.{EntryAt, fde_entry, rule_entry, pe_entry, entry_at}
+use Rattle.framehop.specs.Modules.{ModuleView, UnwindData, covering}
+use Rattle.framehop.specs.declared.lookup.SectionFde.{SectionFde}
+use Rattle.framehop.specs.declared.modules.UnwinderError.{UnwinderError}
 use Rattle.framehop_backtrace.specs.declared.rows.RowFinding.{RowFinding}
 use Rattle.framehop_backtrace.specs.declared.rows.RowFinding.TheVariants.{Row as FoundRow, Uncovered, NoRow}
 
@@ -47,27 +47,22 @@ finding_by bytes (reads_row row) = by_row bytes row
 finding_by bytes reads_uncovered = uncovered
 finding_by bytes (unread error) = no_row
 
--- by the FDE at an offset of a section, for a relative address
-abbrev pub finding_at : Option StorageLimits → CallFrames → ℕ → Option ℕ → Finding
-finding_at limits frames relative (Some offset) =
-    finding_by frames.section.bytes (reading_of limits frames.section (frames.base_svma + relative) offset)
-finding_at limits frames relative None = no_row
+-- by an FDE, for a relative address
+abbrev pub finding_by_fde : Option StorageLimits → ℕ → SectionFde → Finding
+finding_by_fde limits relative fde =
+    finding_by fde.section.bytes (reading_of limits fde.section (fde.base_svma + relative) fde.offset)
 
--- by compact unwind info, where it names an FDE
-abbrev pub finding_by_info : {Rule : Type 0} → Option StorageLimits → Option CallFrames → ℕ → Answer Rule → Finding
-finding_by_info limits (Some frames) relative (Ok (NeedDwarf offset)) = finding_at limits frames relative (Some offset)
-finding_by_info limits None relative (Ok (NeedDwarf offset)) = no_row
-finding_by_info limits frames relative (Ok (ExecRule rule)) = no_row
-finding_by_info limits frames relative (Err error) = no_row
+-- by what a frame is unwound by
+abbrev pub finding_by_entry : {Rule : Type 0} → Option StorageLimits → ℕ → Result (EntryAt Rule) UnwinderError → Finding
+finding_by_entry limits relative (Ok (fde_entry fde)) = finding_by_fde limits relative fde
+finding_by_entry limits relative (Ok (rule_entry rule)) = no_row
+finding_by_entry limits relative (Ok (pe_entry sections)) = no_row
+finding_by_entry limits relative (Err error) = no_row
 
 module _ {Rule : Type 0} (compact : CompactReader Rule) (limits : Option StorageLimits) where
   -- by the unwind data of a module, for a relative address in a frame of this kind
   abbrev pub finding_in : UnwindData → ℕ → Bool → Finding
-  finding_in (call_frames frames) relative first = finding_at limits frames relative (fde_offset_of frames relative)
-  finding_in (compact_info d) relative first =
-      finding_by_info limits d.frames relative (unwound compact d.info relative first)
-  finding_in (pe_sections sections) relative first = no_row
-  finding_in (no_unwind_data refusal) relative first = no_row
+  finding_in unwind_data relative first = finding_by_entry limits relative (entry_at compact unwind_data relative first)
 
   abbrev pub finding_of_module : ℕ → Bool → Option ModuleView → Finding
   finding_of_module address first (Some m) = finding_in m.unwind_data (address - m.base_avma) first

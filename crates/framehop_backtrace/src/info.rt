@@ -3,18 +3,15 @@ ghost use Rattle.std.specs.Prelude.{◌≡◌};
 ghost use Rattle.framehop_core.specs.CodeAddress.{location_of};
 ghost use Rattle.framehop_core.specs.Memory.{reply};
 ghost use Rattle.framehop_pe.specs.Sections.{sections_of};
-ghost use Rattle.framehop_macho.specs.Unwinder.{unwound};
-ghost use Rattle.framehop_backtrace.specs.Info.{is_by_pe, is_by_compact, is_by_data, is_by_info};
+ghost use Rattle.framehop_backtrace.specs.Info.{is_by_pe, is_by_data, is_by_info};
 
 use crate::step::read;
-use framehop::unwind_by_data::Lookup;
-use framehop::unwind_data::{CompactInfo, ModuleUnwindDataInternal};
+use framehop::lookup::{Lookup, UnwindEntry};
 use framehop::unwinder::UnwinderInternal;
 use framehop::{AllocationPolicy, Module, Unwinding};
 use framehop_bytes::section::SectionBytes;
 use framehop_columns::memory::WordMemory;
 use framehop_core::FrameAddress;
-use framehop_macho::macho::CuiUnwindResult;
 use framehop_pe::pe::{PeSections, PeUnwinding};
 
 /// Returns whether PE or compact unwind info of the covering module unwinds a frame over registers and a memory.
@@ -47,16 +44,13 @@ fn is_by_module<D: SectionBytes + Drop, A: Unwinding, M: WordMemory>(
 ) -> bool
     ensures { result ≡ is_by_data A.readers regs (M.memory memory.now) «module».now.unwind_data lookup.relative_address lookup.is_first_frame }
 {
-    match module.unwind_data() {
-        ModuleUnwindDataInternal::PeUnwindInfo(info) => {
-            is_by_pe::<D, A, M>(info.sections(), lookup, regs, memory)
-        }
-        ModuleUnwindDataInternal::CompactUnwindInfoAndEhFrame(info) => {
-            is_by_compact::<D, A>(info, lookup)
-        }
-        ModuleUnwindDataInternal::EhFrameHdrAndEhFrame(_)
-        | ModuleUnwindDataInternal::DwarfCfiIndexAndFrames(_)
-        | ModuleUnwindDataInternal::None(_) => false,
+    if module.frame_section().is_some() {
+        return false;
+    }
+    match module.unwind_entry::<A>(lookup) {
+        Ok(UnwindEntry::Pe(info)) => is_by_pe::<D, A, M>(info.sections(), lookup, regs, memory),
+        Ok(UnwindEntry::Rule(_)) => true,
+        Ok(UnwindEntry::Fde(_)) | Err(_) => false,
     }
 }
 
@@ -82,15 +76,4 @@ fn is_by_pe<D: SectionBytes, A: Unwinding, M: WordMemory>(
         &mut read_stack,
     );
     found.is_ok()
-}
-
-/// Returns whether compact unwind info has a rule for a frame.
-fn is_by_compact<D: SectionBytes, A: Unwinding>(info: &CompactInfo<D>, lookup: Lookup) -> bool
-    ensures { result ≡ is_by_compact (unwound A.readers.compact info.now.info lookup.relative_address lookup.is_first_frame) }
-{
-    match info.rule_or_fde_offset::<A>(lookup) {
-        Ok(CuiUnwindResult::ExecRule(_)) => true,
-        Ok(CuiUnwindResult::NeedDwarf(_)) => false,
-        Err(_) => false,
-    }
 }

@@ -8,7 +8,8 @@ use Rattle.framehop_memory.specs.declared.memory.MemoryRange.{MemoryRange}
 use Rattle.framehop_pe_file.specs.ErrorText.{pe_error_text}
 use Rattle.framehop_processes.specs.declared.mapping.Mapping.{Mapping}
 use Rattle.framehop_symbols.specs.Files.{number_in}
-use Rattle.framehop_symbols.specs.Found.{has_names, is_unwind_data}
+use Rattle.framehop_symbols.specs.Found.{has_names}
+use Rattle.framehop.specs.Parts.{is_unwind_data}
 use Rattle.framehop_symbols.specs.FramesText.{IsFramesText}
 use Rattle.framehop_symbols.specs.ReadRefusal.{refusal_text}
 use Rattle.framehop_symbols.specs.declared.files.Files.{Files}

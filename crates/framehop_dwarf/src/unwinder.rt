@@ -1,7 +1,7 @@
 //! What unwinds by the call frame information of a module.
 ghost use Rattle.std.specs.Prelude.{IfErr, ◌≡◌, ◌≢◌, ◌+◌, ℕ, Bool, true, IsTrue, MatchOption, IfSome, Option, None, Err};
 ghost use Rattle.framehop_cfi.specs.Section.{section_of};
-ghost use Rattle.framehop_cfi.specs.Header.{IsOfRowFor};
+ghost use Rattle.framehop_cfi.specs.Header.{IsOfRowFor, fde_offset_in};
 ghost use Rattle.framehop_cfi.specs.Entry.{fde_at};
 ghost use Rattle.framehop_dwarf.specs.MayTakeMemory.{needs_room_by, may_take_memory};
 ghost use Rattle.framehop_dwarf.specs.Unwinder.{header_bases, HasHeader, fde_offset_for, reading_of, IsReading, HasFound, found_by, direct_by, OfRow};
@@ -31,6 +31,33 @@ pub fn header_bases(bases: &BaseAddresses) -> SectionBaseAddresses
         text: bases.text,
         data: bases.eh_frame_hdr,
     }
+}
+
+/// Returns the offset in `.eh_frame` of the FDE that the table of `.eh_frame_hdr` names for an address relative to the
+/// module's base. The FDE may not cover the address. A table that can't be read names none.
+#[inline(always)]
+#[tactic(auto, unfolding(framehop_cfi::specs::Header::fde_offset_in))]
+pub fn fde_offset_by_table(
+    eh_frame_hdr: &[u8],
+    bases: &BaseAddresses,
+    base_svma: u64,
+    relative_address: u32,
+) -> Option<u32>
+    ensures { result ≡ fde_offset_in (record { bases = header_bases bases.now; bytes = eh_frame_hdr.now })
+        (base_svma + relative_address) }
+{
+    let header = EhFrameHdr::parse(eh_frame_hdr, header_bases(bases))?;
+    offset_by_header(&header, base_svma, relative_address)
+}
+
+/// Returns the offset of the FDE that a table names for a relative address.
+#[inline(always)]
+fn offset_by_header(header: &EhFrameHdr, base_svma: u64, relative_address: u32) -> Option<u32>
+    ensures exact { result ≡ fde_offset_in header.now (base_svma + relative_address) }
+    ensures law { IsOfRowFor header.now (base_svma + relative_address) result }
+{
+    let address = base_svma.saturating_add(u64::from(relative_address));
+    header.fde_offset_for_address(address)
 }
 
 /// Finds FDEs and makes rows for the addresses of one module.
@@ -75,6 +102,26 @@ impl<'a, A, S: UnwindContextStorage> DwarfUnwinder<'a, A, S> {
         }
     }
 
+    /// Returns an unwinder over a call frame section, without its table.
+    #[inline(always)]
+    pub fn over_section(
+        section: UnwindSection<'a>,
+        unwind_context: &'a mut UnwindContext<S>,
+        base_svma: u64,
+    ) -> Self
+        ensures section { result.section ≡ section.entry }
+        ensures base { result.base_svma ≡ base_svma }
+        ensures header { result.eh_frame_hdr ≡ None }
+    {
+        DwarfUnwinder {
+            section,
+            eh_frame_hdr: None,
+            unwind_context,
+            base_svma,
+            arch: PhantomData,
+        }
+    }
+
     /// Returns the offset in `.eh_frame` of the FDE that the table names for a relative address. The FDE may not
     /// cover the address. Without a table there is none.
     pub fn get_fde_offset_for_relative_address(&self, rel_lookup_address: u32) -> Option<u32>
@@ -82,10 +129,7 @@ impl<'a, A, S: UnwindContextStorage> DwarfUnwinder<'a, A, S> {
         ensures law { IfSome self.now.eh_frame_hdr (λ header. IsOfRowFor header (self.now.base_svma + rel_lookup_address) result) }
     {
         match &self.eh_frame_hdr {
-            Some(header) => {
-                let address = self.base_svma.saturating_add(u64::from(rel_lookup_address));
-                header.fde_offset_for_address(address)
-            }
+            Some(header) => offset_by_header(header, self.base_svma, rel_lookup_address),
             None => None,
         }
     }

@@ -7,21 +7,19 @@ use Rattle.framehop_core.specs.CodeAddress.{FrameLocation, lookup_address, is_fi
 use Rattle.framehop_core.specs.declared.error.Error.{Error}
 use Rattle.framehop_cfi.specs.declared.storage.StorageLimits.{StorageLimits}
 use Rattle.framehop_dwarf.specs.Unwinder.{found_by, direct_by, reading_of}
-use Rattle.framehop_macho.specs.Answer.{Answer}
-use Rattle.framehop_macho.specs.Unwinder.{unwound}
-use Rattle.framehop_macho.specs.declared.macho.CuiUnwindResult.TheVariants.{ExecRule, NeedDwarf}
 use Rattle.framehop.specs.Policy.{Policy}
 use Rattle.framehop.specs.Answer.{Fresh, by_rule, fresh_of}
-use Rattle.framehop.specs.CallFrames.{CallFrames, fde_answer, fde_offset_of}
-use Rattle.framehop.specs.Compact.{by_info}
+use Rattle.framehop.specs.CallFrames.{fde_answer}
 use Rattle.framehop.specs.Fresh.{fresh, step, outcome_of}
-use Rattle.framehop.specs.Modules.{ModuleView, UnwindData, no_unwind_data, call_frames, pe_sections, compact_info, covering}
-use Rattle.framehop.specs.Unwinding.{Unwinding, Readers, data_answer, answer_by}
+use Rattle.framehop.specs.Lookup.{EntryAt, fde_entry, rule_entry, pe_entry, entry_at}
+use Rattle.framehop.specs.Modules.{ModuleView, covering}
+use Rattle.framehop.specs.Unwinding.{Unwinding, Readers, entry_answer, answer_by}
+use Rattle.framehop.specs.declared.lookup.SectionFde.{SectionFde}
 use Rattle.framehop.specs.declared.modules.UnwinderError.{UnwinderError}
 use Rattle.framehop.specs.declared.modules.UnwinderError.TheVariants as reason
 use Rattle.framehop_explain.specs.Decided.{IsOutcomeBy, IsDecidedBy}
-use Rattle.framehop_explain.specs.Explain.{Values, IsTold}
-use Rattle.framehop_explain.specs.Told.{told_by, pe_reason, offset_told, compact_told}
+use Rattle.framehop_explain.specs.Explain.{Values, entry_told, IsTold}
+use Rattle.framehop_explain.specs.Told.{told_by, pe_reason, fde_told}
 use Rattle.framehop_explain.specs.declared.told.Told.{Told}
 
 -- what readers give, from registers over a memory
@@ -51,34 +49,24 @@ module _ {R S : Type 0} (u : Unwinding R S) (first : Bool) (regs : S) (memory : 
   by-found refuse (Ok None) compute (Err error) is = rw is refl
 
   module _ (r : Readers R S) (policy : Policy) (relative : ℕ) where
-    by-fde : (frames : CallFrames) (offset : ℕ) → Decides (told_by reason.Dwarf (found_by r.rows.translated r.rows.uncovered (reading_of policy.rows frames.section (frames.base_svma + relative) offset)) (direct_by (λ row. r.rows.direct frames.section.bytes policy.values memory row first regs) (reading_of policy.rows frames.section (frames.base_svma + relative) offset))) (fde_answer r.rows policy frames.section (frames.base_svma + relative) first offset)
+    by-fde : (fde : SectionFde) → Decides (fde_told r.rows.translated r.rows.uncovered (λ row. r.rows.direct fde.section.bytes policy.values memory row first regs) policy.rows relative fde) (fde_answer r.rows policy fde.section (fde.base_svma + relative) first fde.offset)
     unfolding fde_answer
-    by-fde frames offset =
-        let reading = reading_of policy.rows frames.section (frames.base_svma + relative) offset in
-        by-found reason.Dwarf (found_by r.rows.translated r.rows.uncovered reading) (λ old words. direct_by (λ row. r.rows.direct frames.section.bytes policy.values words row first old) reading) _ refl
+    by-fde fde =
+        let reading = reading_of policy.rows fde.section (fde.base_svma + relative) fde.offset in
+        by-found reason.Dwarf (found_by r.rows.translated r.rows.uncovered reading) (λ old words. direct_by (λ row. r.rows.direct fde.section.bytes policy.values words row first old) reading) _ refl
 
-    by-offset : (frames : CallFrames) (offset : Option ℕ) → Decides (offset_told r.rows.translated r.rows.uncovered (λ row. r.rows.direct frames.section.bytes policy.values memory row first regs) policy.rows frames relative offset) (option_and_then (fde_answer r.rows policy frames.section (frames.base_svma + relative) first) offset)
-    by-offset frames None = refl
-    by-offset frames (Some offset) = by-fde frames offset
-
-    by-compact : (frames : Option CallFrames) (answer : Answer R) → Decides (compact_told r.rows.translated r.rows.uncovered (λ bytes row. r.rows.direct bytes policy.values memory row first regs) policy.rows frames relative answer) (by_info r.rows policy frames relative first answer)
-    by-compact frames (Ok (ExecRule rule)) = refl
-    by-compact None (Ok (NeedDwarf offset)) = refl
-    by-compact (Some frames) (Ok (NeedDwarf offset)) = by-fde frames offset
-    by-compact frames (Err error) = refl
-
-    -- by the unwind data of a module
-    by-data : (found : UnwindData) (told : Told R) → IsTold (values_by r policy.values first regs memory) policy.rows found relative first told → Decides told (data_answer r policy found relative first)
-    by-data (no_unwind_data refusal) told is = rw is refl
-    by-data (call_frames frames) told is = rw is (by-offset frames (fde_offset_of frames relative))
-    by-data (pe_sections sections) told is = rw is (by-found pe_reason (r.pe_found sections relative first) (λ old words. r.pe_computed sections relative first words old) _ refl)
-    by-data (compact_info d) told is = rw is (by-compact d.frames (unwound r.compact d.info relative first))
+    -- by what a frame is unwound by
+    by-entry : (entry : Result (EntryAt R) UnwinderError) → Decides (entry_told (values_by r policy.values first regs memory) policy.rows relative first entry) (entry_answer r policy relative first entry)
+    by-entry (Ok (fde_entry fde)) = by-fde fde
+    by-entry (Ok (rule_entry rule)) = refl
+    by-entry (Ok (pe_entry sections)) = by-found pe_reason (r.pe_found sections relative first) (λ old words. r.pe_computed sections relative first words old) _ refl
+    by-entry (Err error) = refl
 
   -- by the module that covers an address
   by-module : (r : Readers R S) (policy : Policy) (m : ModuleView) (relative : ℕ) (told : Told R) → u.module_answer ≡ answer_by r policy → IsTold (values_by r policy.values first regs memory) policy.rows m.unwind_data relative first told → Decides told (u.module_answer m relative first)
   unfolding answer_by
   by-module r policy m relative told is tells =
-      rw is (by-data r policy relative m.unwind_data told tells)
+      rw (is, tells) (by-entry r policy relative (entry_at r.compact m.unwind_data relative first))
 
 -- a step of a frame that a module covers, and of one that none covers
 step-covered : {R S : Type 0} (u : Unwinding R S) (modules : List ModuleView) (location : FrameLocation) (regs : S) (memory : Memory) (m : ModuleView) → covering modules (lookup_address location) ≡ Some m → step u modules location regs memory ≡ outcome_by u (is_first_frame location) regs memory (u.module_answer m (lookup_address location - m.base_avma) (is_first_frame location))

@@ -1,21 +1,19 @@
 -- Where compact unwind info tells how to unwind from an address (Apple, mach-o/compact_unwind_encoding.h).
-use Rattle.std.specs.Prelude.{◌≡◌, ◌⊎◌, ℕ, ◌+◌, ◌-◌, ◌==◌, Bool, true, false, MatchBool, List, Option, Some, None, Result, Ok, Err}
+use Rattle.std.specs.Prelude.{◌≡◌, ◌⊎◌, ℕ, ◌-◌, ◌==◌, Bool, true, false, MatchBool, List, Option, Some, None, Result, Ok, Err}
 use Rattle.framehop_cfi.specs.declared.storage.StorageLimits.{StorageLimits}
-use Rattle.framehop_dwarf.specs.Unwinder.{reading_of}
-use Rattle.framehop_macho.specs.Answer.{Answer}
 use Rattle.framehop_macho.specs.Unwinder.{Module, CompactReader, Text, code_of, is_in, unwound}
 use Rattle.framehop_macho.specs.UnwindInfo.{function_of}
-use Rattle.framehop_macho.specs.declared.macho.CuiUnwindResult.TheVariants.{ExecRule, NeedDwarf}
 use Rattle.framehop_macho.specs.declared.unwind_info.error.CompactReadError.{CompactReadError}
 use Rattle.framehop_macho.specs.declared.unwind_info.info.Function.{Function}
-use Rattle.framehop.specs.CallFrames.{CallFrames}
 use Rattle.framehop.specs.Compact.{CompactData}
+use Rattle.framehop.specs.Lookup.{EntryAt, fde_entry, rule_entry, pe_entry, compact_entry}
+use Rattle.framehop.specs.declared.modules.UnwinderError.{UnwinderError}
 use Rattle.framehop_explain.specs.declared.source.CompactSource.{CompactSource}
 use Rattle.framehop_explain.specs.declared.source.CompactSource.TheVariants.{Stub, StubHelper, Unread, Outside, Start, Prologue, Epilogue, Opcode}
 use Rattle.framehop_explain.specs.declared.source.RowSource.{RowSource}
 use Rattle.framehop_explain.specs.declared.source.Source.{Source}
 use Rattle.framehop_explain.specs.declared.source.Source.TheVariants.{Compact, CompactFde}
-use Rattle.framehop_explain.specs.Source.{row_source}
+use Rattle.framehop_explain.specs.Source.{fde_row}
 
 -- what an architecture makes of the code around an offset of a function: its rule, if it gives one, and which rules are
 -- those of a prologue and of an epilogue
@@ -60,27 +58,22 @@ module _ {Rule : Type 0} (reader : CodeReader Rule) where
       (IsPlaceBy m.text address first (function_of m.unwind_info address) place))
 
 -- an FDE that the opcode of a function names, and what it has for the address
-abbrev pub named_fde : ℕ → RowSource → CompactSource → Source
-named_fde offset row (Opcode function) = CompactFde function offset row
-named_fde offset row place = Compact place
+abbrev pub named_source : ℕ → RowSource → CompactSource → Source
+named_source offset row (Opcode function) = CompactFde function offset row
+named_source offset row place = Compact place
 
--- by the FDE at an offset of `__eh_frame`, if there is one
-abbrev pub eh_frame_source : Option StorageLimits → Option CallFrames → ℕ → ℕ → CompactSource → Source
-eh_frame_source limits (Some frames) relative offset place =
-    named_fde offset (row_source (reading_of limits frames.section (frames.base_svma + relative) offset)) place
-eh_frame_source limits None relative offset place = Compact place
-
--- by what the info gives
-abbrev pub source_by_info : {Rule : Type 0} → Option StorageLimits → Option CallFrames → ℕ → Answer Rule → CompactSource
-    → Source
-source_by_info limits frames relative (Ok (NeedDwarf offset)) place =
-    eh_frame_source limits frames relative offset place
-source_by_info limits frames relative (Ok (ExecRule rule)) place = Compact place
-source_by_info limits frames relative (Err error) place = Compact place
+-- by what the info gives: the FDE that it names, if there is one
+abbrev pub source_by_info : {Rule : Type 0} → Option StorageLimits → ℕ → Result (EntryAt Rule) UnwinderError
+    → CompactSource → Source
+source_by_info limits relative (Ok (fde_entry fde)) place =
+    named_source fde.offset (fde_row limits relative fde) place
+source_by_info limits relative (Ok (rule_entry rule)) place = Compact place
+source_by_info limits relative (Ok (pe_entry sections)) place = Compact place
+source_by_info limits relative (Err error) place = Compact place
 
 -- by the place of an address, and the FDE that the info names for it
 abbrev pub IsCompactSource : {Rule : Type 0} → CodeReader Rule → CompactReader Rule → Option StorageLimits → CompactData
     → ℕ → Bool → Source → Type 0
 IsCompactSource code compact limits d relative first source =
     (place : CompactSource) × IsPlace code d.info relative first place
-    × (source ≡ source_by_info limits d.frames relative (unwound compact d.info relative first) place)
+    × (source ≡ source_by_info limits relative (compact_entry d.frames (unwound compact d.info relative first)) place)

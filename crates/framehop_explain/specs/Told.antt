@@ -1,16 +1,13 @@
 -- What the unwind data of a module tells for a frame, against what the data gives.
-use Rattle.std.specs.Prelude.{ℕ, ◌+◌, List, Option, Some, None, Result, Ok, Err}
+use Rattle.std.specs.Prelude.{ℕ, ◌+◌, Option, Some, None, Result, Ok, Err}
 use Rattle.framehop_core.specs.declared.unwind_result.UnwindResult.{UnwindResult}
 use Rattle.framehop_core.specs.declared.unwind_result.UnwindResult.TheVariants.{ExecRule, Uncacheable}
 use Rattle.framehop_cfi.specs.Row.{Row}
 use Rattle.framehop_cfi.specs.declared.storage.StorageLimits.{StorageLimits}
 use Rattle.framehop_cfi.specs.declared.dwarf_error.DwarfUnwinderError.{DwarfUnwinderError}
-use Rattle.framehop_cfi.specs.Header.{Header}
 use Rattle.framehop_dwarf.specs.Unwinder.{Reading, found_by, direct_by, reading_of}
-use Rattle.framehop_macho.specs.Answer.{Answer}
-use Rattle.framehop_macho.specs.declared.macho.CuiUnwindResult.TheVariants.{ExecRule as ByRule, NeedDwarf}
 use Rattle.framehop_pe.specs.declared.pe.PeUnwinderError.{PeUnwinderError}
-use Rattle.framehop.specs.CallFrames.{CallFrames, fde_offset_of}
+use Rattle.framehop.specs.declared.lookup.SectionFde.{SectionFde}
 use Rattle.framehop.specs.declared.modules.UnwinderError.{UnwinderError}
 use Rattle.framehop.specs.declared.modules.UnwinderError.TheVariants as reason
 use Rattle.framehop_explain.specs.declared.told.Told.{Told}
@@ -43,39 +40,12 @@ abbrev pub dwarf_told : {R S : Type 0} → (Row → Option R) → R → (Row →
 dwarf_told translated uncovered direct reading =
     told_by reason.Dwarf (found_by translated uncovered reading) (direct_by direct reading)
 
--- by a call frame section: the reason where it has no FDE
-abbrev pub no_fde : Option Header → UnwinderError
-no_fde (Some header) = reason.EhFrameHdrCouldNotFindAddress
-no_fde None = reason.DwarfCfiIndexCouldNotFindAddress
-
--- by the FDE at an offset, and by the one that call frames have for an address
-abbrev pub offset_told : {R S : Type 0} → (Row → Option R) → R → (Row → Result (ℕ × S) DwarfUnwinderError)
-    → Option StorageLimits → CallFrames → ℕ → Option ℕ → Told R
-offset_told translated uncovered direct limits frames relative None = Refused (no_fde frames.header)
-offset_told translated uncovered direct limits frames relative (Some offset) =
-    dwarf_told translated uncovered direct (reading_of limits frames.section (frames.base_svma + relative) offset)
-
-abbrev pub frames_told : {R S : Type 0} → (Row → Option R) → R → (Row → Result (ℕ × S) DwarfUnwinderError)
-    → Option StorageLimits → CallFrames → ℕ → Told R
-frames_told translated uncovered direct limits frames relative =
-    offset_told translated uncovered direct limits frames relative (fde_offset_of frames relative)
+-- by an FDE, for a relative address
+abbrev pub fde_told : {R S : Type 0} → (Row → Option R) → R → (Row → Result (ℕ × S) DwarfUnwinderError)
+    → Option StorageLimits → ℕ → SectionFde → Told R
+fde_told translated uncovered direct limits relative fde =
+    dwarf_told translated uncovered direct (reading_of limits fde.section (fde.base_svma + relative) fde.offset)
 
 -- PE unwind info's reason of the fallback
 abbrev pub pe_reason : PeUnwinderError → UnwinderError
 pe_reason error = reason.Pe error
-
--- by the FDE at an offset of `__eh_frame`, if there is one
-abbrev pub eh_frame_told : {R S : Type 0} → (Row → Option R) → R → (List ℕ → Row → Result (ℕ × S) DwarfUnwinderError)
-    → Option StorageLimits → Option CallFrames → ℕ → ℕ → Told R
-eh_frame_told translated uncovered direct limits None relative offset = Refused reason.NoDwarfData
-eh_frame_told translated uncovered direct limits (Some frames) relative offset =
-    dwarf_told translated uncovered (direct frames.section.bytes)
-    (reading_of limits frames.section (frames.base_svma + relative) offset)
-
--- by what compact unwind info gives: a rule, the offset of an FDE, or a refusal
-abbrev pub compact_told : {R S : Type 0} → (Row → Option R) → R → (List ℕ → Row → Result (ℕ × S) DwarfUnwinderError)
-    → Option StorageLimits → Option CallFrames → ℕ → Answer R → Told R
-compact_told translated uncovered direct limits frames relative (Ok (ByRule rule)) = Rule rule
-compact_told translated uncovered direct limits frames relative (Ok (NeedDwarf offset)) =
-    eh_frame_told translated uncovered direct limits frames relative offset
-compact_told translated uncovered direct limits frames relative (Err error) = Refused (reason.CompactUnwindInfo error)

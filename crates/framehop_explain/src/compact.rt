@@ -3,20 +3,19 @@ ghost use Rattle.std.specs.Prelude.{◌≡◌, ◌≤◌, length, IfOk};
 ghost use Rattle.framehop_core.specs.Memory.{Answering};
 ghost use Rattle.framehop_macho.specs.Unwinder.{unwound};
 ghost use Rattle.framehop_macho.specs.UnwindInfo.{Covers};
-ghost use Rattle.framehop_explain.specs.CompactSource.{IsPlaceByCode, IsPlaceIn, IsPlace, IsCompactSource, named_fde, eh_frame_source};
-ghost use Rattle.framehop_explain.specs.Told.{eh_frame_told, compact_told};
+ghost use Rattle.framehop.specs.Lookup.{compact_entry};
+ghost use Rattle.framehop_explain.specs.CompactSource.{IsPlaceByCode, IsPlaceIn, IsPlace, IsCompactSource, named_source};
+ghost use Rattle.framehop_explain.specs.Explain.{entry_told};
 
-use crate::frames::explain_fde;
+use crate::frames::explain_by_fde;
 use crate::pe::Sources;
 use crate::source::{CompactSource, RowSource, Source};
 use crate::told::Told;
-use framehop::unwind_by_data::Lookup;
+use framehop::lookup::Lookup;
 use framehop::unwind_data::CompactInfo;
-use framehop::{AllocationPolicy, UnwinderError, Unwinding};
+use framehop::{AllocationPolicy, UnwinderError};
 use framehop_bytes::section::SectionBytes;
 use framehop_cfi::context::UnwindContext;
-use framehop_cfi::entry::UnwindSectionType;
-use framehop_dwarf::unwinder::DwarfUnwinder;
 use framehop_macho::macho::{CuiUnwindResult, TextBytes, code_of_function, find_function, is_in};
 use framehop_macho::unwind_info::info::Function;
 use std::alloc::{AllocError, Global};
@@ -42,24 +41,34 @@ where
         (record { by_code = A.by_code; prologue = A.prologue_rule; epilogue = A.epilogue_rule })
         A.readers.compact P.GimliUnwindContextStorage.limits info.now lookup.relative_address lookup.is_first_frame found.0) }
     ensures answers { Answering F.FnMut read_stack.old read_stack.new (λ memory.
-        IfOk result (λ found. found.1 ≡ compact_told A.translated A.uncovered
-        (λ bytes row. A.direct bytes P.GimliEvaluationStorage.Stack.limit memory row lookup.is_first_frame regs)
-        P.GimliUnwindContextStorage.limits info.now.frames lookup.relative_address
-        (unwound A.readers.compact info.now.info lookup.relative_address lookup.is_first_frame))) }
+        IfOk result (λ found. found.1 ≡ entry_told (record {
+          translated = A.translated;
+          uncovered = A.uncovered;
+          direct = λ bytes row. A.direct bytes P.GimliEvaluationStorage.Stack.limit memory row lookup.is_first_frame regs;
+          found = A.found;
+          computed = λ sections relative first. A.computed sections relative first memory regs;
+          compact = A.readers.compact;
+        }) P.GimliUnwindContextStorage.limits lookup.relative_address lookup.is_first_frame (compact_entry info.now.frames
+        (unwound A.readers.compact info.now.info lookup.relative_address lookup.is_first_frame)))) }
 {
     let place = place_of::<D, A>(info, lookup.relative_address, lookup.is_first_frame);
     match info.rule_or_fde_offset::<A>(lookup) {
         Ok(CuiUnwindResult::ExecRule(rule)) => Ok((Source::Compact(place), Told::Rule(rule))),
-        Ok(CuiUnwindResult::NeedDwarf(fde_offset)) => explain_by_eh_frame::<D, A, P, F>(
-            info,
-            place,
-            fde_offset,
-            alloc,
-            unwind_context,
-            lookup,
-            regs,
-            read_stack,
-        ),
+        Ok(CuiUnwindResult::NeedDwarf(offset)) => {
+            let Some(fde) = info.fde(offset) else {
+                let refusal = Told::Refused(UnwinderError::NoDwarfData);
+                return Ok((Source::Compact(place), refusal));
+            };
+            let (row, told) = explain_by_fde::<A, P, F>(
+                fde,
+                alloc,
+                unwind_context,
+                lookup,
+                regs,
+                read_stack,
+            )?;
+            Ok((named_source(place, offset, row), told))
+        }
         Err(error) => Ok((
             Source::Compact(place),
             Told::Refused(UnwinderError::CompactUnwindInfo(error)),
@@ -136,56 +145,9 @@ fn place_by_code<A: Sources>(function: Function, code: &[u8], offset: usize) -> 
     CompactSource::Opcode(function)
 }
 
-/// Explains a frame by the FDE at an offset of `__eh_frame`, if there is one.
-fn explain_by_eh_frame<D: SectionBytes, A: Unwinding, P: AllocationPolicy, F>(
-    info: &CompactInfo<D>,
-    place: CompactSource,
-    fde_offset: u32,
-    alloc: Global,
-    unwind_context: &mut UnwindContext<P::GimliUnwindContextStorage>,
-    lookup: Lookup,
-    regs: A::UnwindRegs,
-    read_stack: &mut F,
-) -> Result<(Source, Told<A::UnwindRule>), AllocError>
-where
-    F: FnMut(u64) -> Result<u64, ()>,
-    requires { F.IsAlwaysCallable read_stack.old }
-    ensures callable { F.IsAlwaysCallable read_stack.new }
-    ensures source { IfOk result (λ found. found.0 ≡ eh_frame_source
-        P.GimliUnwindContextStorage.limits info.now.frames lookup.relative_address fde_offset place) }
-    ensures answers { Answering F.FnMut read_stack.old read_stack.new (λ memory.
-        IfOk result (λ found. found.1 ≡ eh_frame_told A.translated A.uncovered
-        (λ bytes row. A.direct bytes P.GimliEvaluationStorage.Stack.limit memory row lookup.is_first_frame regs)
-        P.GimliUnwindContextStorage.limits info.now.frames lookup.relative_address fde_offset)) }
-{
-    let Some(eh_frame) = &info.eh_frame else {
-        return Ok((
-            Source::Compact(place),
-            Told::Refused(UnwinderError::NoDwarfData),
-        ));
-    };
-    let mut unwinder: DwarfUnwinder<'_, A, P::GimliUnwindContextStorage> = DwarfUnwinder::new(
-        eh_frame.bytes(),
-        UnwindSectionType::EhFrame,
-        None,
-        unwind_context,
-        info.base_addresses,
-        info.base_svma,
-    );
-    let (row, told) = explain_fde::<A, P, F>(
-        &mut unwinder,
-        alloc,
-        lookup,
-        fde_offset,
-        regs,
-        read_stack,
-    )?;
-    Ok((named_fde(place, fde_offset, row), told))
-}
-
-/// Returns the source of a frame by the FDE that the opcode of a function names.
-fn named_fde(place: CompactSource, offset: u32, row: RowSource) -> Source
-    ensures { result ≡ named_fde offset row place }
+/// Returns the source of a frame by the FDE at an offset, which the opcode of a function names.
+fn named_source(place: CompactSource, offset: u32, row: RowSource) -> Source
+    ensures { result ≡ named_source offset row place }
 {
     match place {
         CompactSource::Opcode(function) => Source::CompactFde {

@@ -5,19 +5,21 @@ ghost use Rattle.framehop_core.specs.Outcome.{answer_of, registers_after};
 ghost use Rattle.framehop_core.specs.CodeAddress.{location_of, lookup_address, is_first_frame};
 ghost use Rattle.framehop_pe.specs.Sections.{sections_of};
 ghost use Rattle.framehop.specs.Fresh.{step};
-ghost use Rattle.framehop.specs.Modules.{covering, pe_sections};
+ghost use Rattle.framehop.specs.Modules.{covering};
 ghost use Rattle.framehop_explain.specs.Decided.{IsDecidedBy};
 ghost use Rattle.framehop_explain.specs.Explain.{IsSource, IsTold};
+ghost use Rattle.framehop_explain.specs.Source.{no_source};
 
 use crate::compact::explain_by_info;
-use crate::frames::{explain_by_header, explain_by_index};
+use crate::frames::explain_by_fde;
+use crate::kind::UnwindDataKind;
 use crate::pe::{Sources, told_by_sections};
 use crate::source::Source;
 use crate::told::Told;
-use framehop::unwind_by_data::Lookup;
-use framehop::unwind_data::ModuleUnwindDataInternal;
+use framehop::lookup::{Lookup, UnwindDataAt};
+use framehop::unwind_data::IndexRefusal;
 use framehop::unwinder::UnwinderInternal;
-use framehop::{AllocationPolicy, Error, FrameAddress, Module, UnwinderError};
+use framehop::{AllocationPolicy, Error, FrameAddress, Module};
 use framehop_bytes::section::SectionBytes;
 use framehop_cfi::context::UnwindContext;
 use framehop_core::arch::Arch;
@@ -191,25 +193,53 @@ where
           compact = A.readers.compact;
         }) P.GimliUnwindContextStorage.limits module.now.unwind_data lookup.relative_address lookup.is_first_frame found.1)) }
 {
-    match module.unwind_data() {
-        ModuleUnwindDataInternal::None(refusal) => Ok((
-            Source::NoUnwindData(*refusal),
-            Told::Refused(UnwinderError::NoModuleUnwindData),
-        )),
-        ModuleUnwindDataInternal::DwarfCfiIndexAndFrames(frames) => {
-            explain_by_index::<D, A, P, F>(frames, alloc, unwind_context, lookup, regs, read_stack)
+    match module.unwind_data_at(lookup.relative_address) {
+        Ok(UnwindDataAt::Fde(fde)) => {
+            let (section_type, offset) = (fde.section.section_type, fde.offset);
+            let (row, told) = explain_by_fde::<A, P, F>(
+                fde,
+                alloc,
+                unwind_context,
+                lookup,
+                regs,
+                read_stack,
+            )?;
+            let source = Source::Fde {
+                section_type,
+                offset,
+                row,
+            };
+            Ok((source, told))
         }
-        ModuleUnwindDataInternal::EhFrameHdrAndEhFrame(frames) => {
-            explain_by_header::<D, A, P, F>(frames, alloc, unwind_context, lookup, regs, read_stack)
+        Ok(UnwindDataAt::Compact(info)) => {
+            explain_by_info::<D, A, P, F>(info, alloc, unwind_context, lookup, regs, read_stack)
         }
-        ModuleUnwindDataInternal::PeUnwindInfo(info) => {
+        Ok(UnwindDataAt::Pe(info)) => {
             let sections = info.sections();
             let source = A::pe_source(sections, lookup.relative_address, lookup.is_first_frame);
             let told = told_by_sections::<D, A, F>(sections, lookup, regs, read_stack);
             Ok((Source::Pe(source), told))
         }
-        ModuleUnwindDataInternal::CompactUnwindInfoAndEhFrame(info) => {
-            explain_by_info::<D, A, P, F>(info, alloc, unwind_context, lookup, regs, read_stack)
+        Err(error) => Ok((no_source(UnwindDataKind::of(module)), Told::Refused(error))),
+    }
+}
+
+/// Returns the source of a frame where unwind data of this kind has nothing for it.
+fn no_source(kind: UnwindDataKind) -> Source
+    ensures { result ≡ no_source kind }
+{
+    match kind {
+        UnwindDataKind::IndexRefused {
+            section_type,
+            error,
+        } => Source::NoUnwindData(Some(IndexRefusal {
+            section_type,
+            error,
+        })),
+        UnwindDataKind::EhFrameWithHeader => Source::NotInHeader,
+        UnwindDataKind::Indexed { section_type } => Source::NotInIndex(section_type),
+        UnwindDataKind::None | UnwindDataKind::Pe | UnwindDataKind::Compact { .. } => {
+            Source::NoUnwindData(None)
         }
     }
 }

@@ -10,7 +10,7 @@ ghost use Rattle.framehop_macho.specs.declared.unwind_info.info.Function.{Functi
 use crate::source::PeSource;
 use crate::told::{Told, told_by_pe};
 use framehop::Unwinding;
-use framehop::unwind_by_data::Lookup;
+use framehop::lookup::Lookup;
 use framehop_bytes::section::SectionBytes;
 use framehop_core::aarch64::ArchAarch64;
 use framehop_core::x86_64::ArchX86_64;

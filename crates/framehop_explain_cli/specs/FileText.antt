@@ -9,10 +9,12 @@ use Rattle.framehop_cfi.specs.declared.entry.FrameDescriptionEntry.{FrameDescrip
 use Rattle.framehop_cfi.specs.declared.read_error.ReadError.{ReadError}
 use Rattle.framehop_dwarf.specs.Unwinder.{Reading, unread, uncovered, by_row, reading_of}
 use Rattle.framehop_pe.specs.FunctionTable.{function_at}
+use Rattle.framehop_pe.specs.Sections.{Sections}
 use Rattle.framehop_pe.specs.declared.pe.PeUnwinderError.{PeUnwinderError}
 use Rattle.framehop_pe.specs.declared.pe.PeUnwinderError.TheVariants.{MissingStackData}
 use Rattle.framehop_pe.specs.declared.unwind_info.function_table.RuntimeFunction.{RuntimeFunction}
-use Rattle.framehop.specs.Modules.{UnwindData, no_unwind_data, call_frames, pe_sections, compact_info}
+use Rattle.framehop.specs.Modules.{UnwindData}
+use Rattle.framehop.specs.Parts.{frames_in, pe_in}
 use Rattle.framehop.specs.declared.modules.UnwinderError.{UnwinderError}
 use Rattle.framehop.specs.declared.modules.UnwinderError.TheVariants.{Pe}
 use Rattle.framehop_explain.specs.DataText.{IsDataText}
@@ -29,13 +31,6 @@ use Rattle.framehop_explain.specs.declared.told.Told.{Told}
 use Rattle.framehop_explain.specs.declared.told.Told.TheVariants.{Rule, Computed, Refused}
 use Rattle.framehop_explain_cli.specs.Functions.{line, function_lines}
 use Rattle.framehop_explain_cli.specs.RowText.{row_text}
-
--- the call frame section that a module unwinds by, if it does
-abbrev pub frames_in : UnwindData → Option Section
-frames_in (call_frames frames) = Some frames.section
-frames_in (no_unwind_data refusal) = None
-frames_in (pe_sections sections) = None
-frames_in (compact_info d) = None
 
 -- the range of an FDE, where one can be read
 unfoldable pub range_line : Result FrameDescriptionEntry ReadError → List ℕ
@@ -118,12 +113,14 @@ entry_text (Some function) = pe_line function
 unfoldable pub pe_lines : List ℕ → List ℕ
 pe_lines pdata = flat_map (λ entry. entry_text (function_at entry)) (first_chunks 12 (length pdata / 12) pdata)
 
--- the functions of a module's unwind data
+-- the functions of a module's unwind data: of its function table, or of its call frame section
+abbrev pub functions_of : Option Sections → Option Section → List ℕ
+functions_of (Some sections) frames = pe_lines sections.pdata
+functions_of None (Some section) = function_lines section
+functions_of None None = []
+
 abbrev pub all_functions : UnwindData → List ℕ
-all_functions (call_frames frames) = function_lines frames.section
-all_functions (pe_sections sections) = pe_lines sections.pdata
-all_functions (no_unwind_data refusal) = []
-all_functions (compact_info d) = []
+all_functions unwind_data = functions_of (pe_in unwind_data) (frames_in unwind_data)
 
 -- where no address is asked for
 abbrev pub functions_unless_asked : UnwindData → List ℕ → List ℕ

@@ -10,7 +10,7 @@ ghost use Rattle.framehop.specs.ModuleData.{unwind_data_in};
 ghost use Rattle.framehop.specs.Policy.{with_allocation};
 ghost use Rattle.framehop_elf.specs.UnwindSections.{bytes_in};
 ghost use Rattle.framehop_explain.specs.Found.{explaining_by};
-ghost use Rattle.framehop_explain_cli.specs.FileText.{frames_in, range_line, row_line, fde_lines, source_lines, is_row, lacks_stack, no_rule_text, told_line, near_text, far_text, pe_line, entry_text, pe_lines, all_functions, functions_unless_asked, IsToldOf, IsAddressText, IsModuleText};
+ghost use Rattle.framehop_explain_cli.specs.FileText.{range_line, row_line, fde_lines, source_lines, is_row, lacks_stack, no_rule_text, told_line, near_text, far_text, pe_line, entry_text, pe_lines, all_functions, functions_unless_asked, IsToldOf, IsAddressText, IsModuleText};
 ghost use Rattle.framehop_explain_cli.specs.Files.{elf_machine, of_elf, of_contents, of_pe, debug_frame_in, elf_of, pe_of, file_of, IsFileText, IsFileProblem};
 ghost use Rattle.framehop_explain_cli.specs.declared.file.FileProblem.TheVariants.{OutOfMemory as NoMemory};
 ghost use Rattle.framehop_explain_cli.specs.Functions.{unread_line, fde_line, entry_line, ends_section, function_lines};
@@ -18,8 +18,7 @@ ghost use Rattle.framehop_explain_cli.specs.Functions.{unread_line, fde_line, en
 use crate::row_text::{RegisterNames, push_row};
 use framehop::aarch64::{ArchAarch64, UnwindRegsAarch64};
 use framehop::cache::MayAllocateDuringUnwind;
-use framehop::unwind_by_data::Lookup;
-use framehop::unwind_data::ModuleUnwindDataInternal;
+use framehop::lookup::Lookup;
 use framehop::x86_64::{ArchX86_64, UnwindRegsX86_64};
 use framehop::{Module, ModuleListError, ModuleSectionInfo, UnwinderError};
 use framehop_cfi::context::UnwindContext;
@@ -380,7 +379,7 @@ fn push_source<A: RegisterNames>(
     let Source::Fde { offset, .. } = source else {
         return Ok(());
     };
-    match call_frames(module) {
+    match module.frame_section() {
         Some(section) => push_fde::<A>(alloc, &section, address, offset, out),
         None => Ok(()),
     }
@@ -524,10 +523,10 @@ fn push_all_functions(
 ) -> Result<(), AllocError>
     ensures { OnOk result (string_bytes out.new ≡ string_bytes out.old ++ all_functions «module».now.unwind_data) }
 {
-    if let ModuleUnwindDataInternal::PeUnwindInfo(info) = module.unwind_data() {
+    if let Some(info) = module.pe_info() {
         return push_pe_functions(info.pdata.as_slice(), out);
     }
-    match call_frames(module) {
+    match module.frame_section() {
         Some(section) => push_functions(alloc, &section, out),
         None => Ok(()),
     }
@@ -563,25 +562,6 @@ fn push_pe_function(function: RuntimeFunction, out: &mut String) -> Result<(), A
     let (start, end) = (function.begin_address, function.end_address);
     let info = function.unwind_info_address;
     writeln!(out, "0x{start:x}..0x{end:x}: unwind info 0x{info:x}")
-}
-
-/// Returns the call frame section of a module, if it unwinds by one.
-fn call_frames(module: &Module<Vec<u8>>) -> Option<UnwindSection<'_>>
-    ensures { result ≡ frames_in «module».entry.now.unwind_data }
-{
-    match module.unwind_data() {
-        ModuleUnwindDataInternal::DwarfCfiIndexAndFrames(frames) => Some(UnwindSection::new(
-            frames.section_data.as_slice(),
-            frames.section_type,
-            &frames.base_addresses,
-        )),
-        ModuleUnwindDataInternal::EhFrameHdrAndEhFrame(frames) => Some(UnwindSection::new(
-            frames.eh_frame.as_slice(),
-            UnwindSectionType::EhFrame,
-            &frames.base_addresses,
-        )),
-        _ => None,
-    }
 }
 
 /// Appends a line for each FDE of a section, in its order. A length of 0 ends `.eh_frame`, and is passed over in

@@ -4,7 +4,8 @@ use Rattle.hex.specs.Hex.{encode_lower}
 use Rattle.serde_json.specs.Data.{Data, null, boolean, string, object, member, no_members}
 use Rattle.framehop_frames.specs.JsonValues.{name_data, or_null, values_from}
 use Rattle.framehop_frames.specs.declared.json_files.FilePaths.{FilePaths}
-use Rattle.framehop_symbols.specs.Found.{has_names, is_unwind_data}
+use Rattle.framehop.specs.Parts.{is_unwind_data}
+use Rattle.framehop_symbols.specs.Found.{has_names}
 use Rattle.framehop_symbols.specs.declared.files.NamedFile.{NamedFile}
 use Rattle.framehop_symbols.specs.declared.object_file.ObjectFile.{ObjectFile}
 

@@ -3,7 +3,7 @@ ghost use Rattle.std.specs.Prelude.{◌≡◌, IfOk, IfErr, None};
 
 use crate::machine::Steps;
 use framehop::FrameAddress;
-use framehop::unwind_by_data::Lookup;
+use framehop::lookup::Lookup;
 use framehop_backtrace::{RowFinding, Rows};
 use framehop_cfi::context::UnwindContext;
 use framehop_cfi::storage::UnwindContextStorage;

@@ -10,7 +10,8 @@ ghost use Rattle.framehop_memory.specs.Segment.{base_of};
 ghost use Rattle.framehop_symbols.specs.ObjectFiles.{Contents, Listed, headers_view, headers_of, build_id_in, build_id_by, debug_link_in, contents_of, is_another, is_another_file, problem_by, problem_of, is_at_entry, symbols_in, symbols_called, listed, listed_of, tables_of, debug_tables_of, IsTable, AreTables, module_of, module_with, module_in, debug_frame_with, debug_frame_in, bare_module, export_tables_of, elf_contents_of, pe_contents_of, IsOutOfMemory, IsKeptWith, IsKeptOf};
 ghost use Rattle.framehop_symbols.specs.Code.{code_of_object};
 ghost use Rattle.framehop_symbols.specs.MappedBytes.{mapped_sections_view};
-ghost use Rattle.framehop_symbols.specs.Found.{has_names, is_unwind_data};
+ghost use Rattle.framehop_symbols.specs.Found.{has_names};
+ghost use Rattle.framehop.specs.Parts.{is_unwind_data};
 ghost use Rattle.framehop_symbols.specs.Place.{option_named, label_at, symbol_at, function_at, unnamed_start};
 ghost use Rattle.framehop_symbols.specs.declared.object_file.FileProblem.{FileProblem};
 
@@ -24,7 +25,6 @@ use crate::plainness::by_plainness;
 use crate::read_refusal::ReadRefusal;
 use framehop::Module;
 use framehop::section::ExplicitModuleSectionInfo;
-use framehop::unwind_data::ModuleUnwindDataInternal;
 use framehop_bytes::string::{before_nul, string_at};
 use framehop_elf::build_id::read_build_id;
 use framehop_elf::decompressed::ContentsError;
@@ -269,10 +269,7 @@ impl<'m> ObjectFile<'m> {
     pub fn has_unwind_data(&self) -> bool
         ensures { result ≡ is_unwind_data self.now.«module».unwind_data }
     {
-        match self.module.unwind_data() {
-            ModuleUnwindDataInternal::None(_) => false,
-            _ => true,
-        }
+        self.module.has_unwind_data()
     }
 
     /// Returns the code of the file from an address (SVMA) on, as far as a segment has it.

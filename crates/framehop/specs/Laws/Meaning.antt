@@ -1,6 +1,6 @@
 -- A step that answers an address does what the source of its rule means, by the laws of the readers.
 use Rattle.std.proofs.Common.{◌≡◌, ℕ, ◌+◌, ◌-◌, ◌==◌, Bool, true, false, List, Option, Some, None, Result, Ok, Err, IfOk, IfSome, MatchOption, inl, inr, refl, sym, ap, ◌∙◌, subst}
-use Rattle.std.specs.Option.{option_and_then, unwrap_or}
+use Rattle.std.specs.Option.{option_map, unwrap_or}
 use Rattle.std.proofs.lemmas.Bool.{cases_Bool}
 use Rattle.framehop_core.specs.Memory.{Memory}
 use Rattle.framehop_core.specs.CodeAddress.{FrameLocation, is_first_frame, lookup_address}
@@ -21,12 +21,14 @@ use Rattle.framehop_macho.specs.declared.unwind_info.error.CompactReadError.{Com
 use Rattle.framehop_macho.specs.declared.unwind_info.info.Function.{Function}
 use Rattle.framehop.specs.Answer.{Fresh, by_rule, direct, values_of, fresh_of}
 use Rattle.framehop.specs.CallFrames.{CallFrames, answer_of_reading, fde_answer, fde_offset_of}
-use Rattle.framehop.specs.Compact.{CompactData, by_info}
+use Rattle.framehop.specs.Compact.{CompactData}
 use Rattle.framehop.specs.Fresh.{fresh, outcome_of, step}
+use Rattle.framehop.specs.Lookup.{DataAt, fde_data, EntryAt, fde_in, no_fde, fde_or, data_at, compact_entry, entry_by}
 use Rattle.framehop.specs.Meaning.{Meanings, Step, Place, place_in, code_place, MeansRow, MeansFde, MeansCode, MeansNamed, MeansData, MeansStep, MeansAt}
 use Rattle.framehop.specs.Modules.{ModuleView, UnwindData, no_unwind_data, call_frames, pe_sections, compact_info, covering}
 use Rattle.framehop.specs.Policy.{Policy}
-use Rattle.framehop.specs.Unwinding.{Unwinding, Readers, data_answer, answer_by}
+use Rattle.framehop.specs.Unwinding.{Unwinding, Readers, entry_answer, answer_by}
+use Rattle.framehop.specs.declared.modules.UnwinderError.{UnwinderError}
 
 -- what the covering module gives
 pub fresh-covered : {R Regs : Type 0} (unwinding : Unwinding R Regs) (modules : List ModuleView) (address : ℕ)
@@ -146,9 +148,16 @@ module _ {Rule Regs : Type 0} (readers : Readers Rule Regs) (meanings : Meanings
   unfolding fde_answer
   fde-means section address offset e = reading-means section.bytes (reading_of policy.rows section address offset) e
 
+  -- so does what a frame is unwound by
+  abbrev EntryAnswers : ℕ → Result (EntryAt Rule) UnwinderError → Type 0
+  EntryAnswers relative entry = Answers (entry_answer readers policy relative s.first entry)
+
+  abbrev Gives : ℕ → Result DataAt UnwinderError → Type 0
+  Gives relative found = EntryAnswers relative (entry_by readers.compact relative s.first found)
+
   frames-mean : (frames : CallFrames) (relative : ℕ) (offset : Option ℕ)
-      → Answers (option_and_then (fde_answer readers.rows policy frames.section (frames.base_svma + relative) s.first)
-      offset) → IfSome offset (MeansFde readers meanings outcome policy s frames.section (frames.base_svma + relative))
+      → Gives relative (fde_or fde_data (no_fde frames.header) (option_map (fde_in frames) offset))
+      → IfSome offset (MeansFde readers meanings outcome policy s frames.section (frames.base_svma + relative))
   frames-mean frames relative None e = tt
   frames-mean frames relative (Some offset) e = fde-means frames.section (frames.base_svma + relative) offset e
 
@@ -163,8 +172,7 @@ module _ {Rule Regs : Type 0} (readers : Readers Rule Regs) (meanings : Meanings
       s.old s.new s.memory s.address e
 
   named-means : (frames : Option CallFrames) (relative : ℕ) (told : Answer Rule)
-      → Answers (by_info readers.rows policy frames relative s.first told)
-      → MeansNamed readers meanings outcome policy s frames relative told
+      → EntryAnswers relative (compact_entry frames told) → MeansNamed readers meanings outcome policy s frames relative told
   named-means frames relative (Ok (ExecRule rule)) e = tt
   named-means None relative (Ok (NeedDwarf offset)) e = tt
   named-means (Some frames) relative (Ok (NeedDwarf offset)) e = fde-means frames.section
@@ -172,8 +180,7 @@ module _ {Rule Regs : Type 0} (readers : Readers Rule Regs) (meanings : Meanings
   named-means frames relative (Err error) e = tt
 
   code-means : (d : CompactData) (relative : ℕ) (place : Place) → code_place d.info relative s.first ≡ Some place
-      → Answers (by_info readers.rows policy d.frames relative s.first
-      (unwound readers.compact d.info relative s.first))
+      → EntryAnswers relative (compact_entry d.frames (unwound readers.compact d.info relative s.first))
       → (found : Option Rule) → meanings.by_code place.function place.code place.offset ≡ found
       → IfSome found (λ rule. meanings.does_code place.code place.offset rule ×
       (outcome rule true s.old s.memory ≡ answered s.address s.new))
@@ -181,21 +188,20 @@ module _ {Rule Regs : Type 0} (readers : Readers Rule Regs) (meanings : Meanings
   code-means d relative place is e (Some rule) code =
       let at_code = placed readers d.info relative s.first place is in
       let says = at_code.1 ∙ laws.says_by_code place.function place.code place.offset rule code in
-      let runs = subst (λ told. Answers (by_info readers.rows policy d.frames relative s.first told)) says e in (
+      let runs = subst (λ told. EntryAnswers relative (compact_entry d.frames told)) says e in (
         laws.code_means place.function place.code place.offset rule code,
         subst (λ first. outcome rule first s.old s.memory ≡ answered s.address s.new) at_code.0 runs,
       )
 
   places-mean : (d : CompactData) (relative : ℕ)
-      → Answers (by_info readers.rows policy d.frames relative s.first
-      (unwound readers.compact d.info relative s.first))
+      → EntryAnswers relative (compact_entry d.frames (unwound readers.compact d.info relative s.first))
       → (found : Option Place) → code_place d.info relative s.first ≡ found
       → IfSome found (MeansCode readers meanings outcome policy s)
   places-mean d relative e None is = tt
   places-mean d relative e (Some place) is = code-means d relative place is e
       (meanings.by_code place.function place.code place.offset) refl
 
-  data-means : (known : UnwindData) (relative : ℕ) → Answers (data_answer readers policy known relative s.first)
+  data-means : (known : UnwindData) (relative : ℕ) → Gives relative (data_at known relative)
       → MeansData readers meanings outcome policy s known relative
   data-means (no_unwind_data refusal) relative e = tt
   data-means (call_frames frames) relative e = frames-mean frames relative (fde_offset_of frames relative) e

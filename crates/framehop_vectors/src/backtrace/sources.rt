@@ -3,7 +3,7 @@ use crate::backtrace::dump::{CODE_SIZE, dump_of, file_of};
 use crate::backtrace::traces::{FrameRow, frame_row};
 use crate::backtrace::unwinders::{LentX86_64, Sections, module_of, sections_of, unwinder_x86_64};
 use crate::backtrace::x86_64::backtrace_in;
-use framehop::unwind_by_data::Lookup;
+use framehop::lookup::Lookup;
 use framehop::x86_64::{UnwindRegsX86_64, UnwinderX86_64};
 use framehop::{Generations, Module, Unwinder};
 use framehop_backtrace::{FoundBy, OrElse, RowFinding, Rows, row_in_module};
