@@ -1,7 +1,7 @@
 //! Which unwind data of a module answers an address, and what a frame there is unwound by.
 //!
-//! It is decided here only: steps, rows, explanations and names of functions are made by what these calls return. They
-//! are inlined, so that a step hands nothing on that it has just put together.
+//! Rows, explanations and names of functions are made by what these calls return. `Module::unwind_by_data` is proved by
+//! the same definition, `entry_at`, and looks FDEs up by the same calls, which are inlined.
 ghost use Rattle.std.specs.Prelude.{◌≡◌, None, IfOk, IsTrue, option_map};
 ghost use Rattle.framehop_cfi.specs.RowAt.{covers};
 ghost use Rattle.framehop_macho.specs.Answer.{IfRule as IfCompactRule};
@@ -204,7 +204,7 @@ impl<D: SectionBytes> HeaderFrames<D> {
     /// Returns the FDE that the table names for a relative address, if it names one.
     #[inline(always)]
     #[tactic(auto, unfolding(crate::specs::CallFrames::fde_offset_of))]
-    fn fde(&self, relative_address: u32) -> Option<SectionFde<'_>>
+    pub(crate) fn fde(&self, relative_address: u32) -> Option<SectionFde<'_>>
         ensures { result ≡ fde_of (header_frames self.entry.now) relative_address }
     {
         let offset = fde_offset_by_table(
@@ -233,7 +233,7 @@ impl<D: SectionBytes> IndexedFrames<D> {
 
     /// Returns the FDE that the index has for a relative address, if it has one.
     #[inline(always)]
-    fn fde(&self, relative_address: u32) -> Option<SectionFde<'_>>
+    pub(crate) fn fde(&self, relative_address: u32) -> Option<SectionFde<'_>>
         ensures found { result ≡ fde_of self.entry.now relative_address }
         ensures by_index { self.entry.now.header ≡ None }
     {
@@ -255,7 +255,6 @@ impl<D: SectionBytes> IndexedFrames<D> {
 
 impl<D: SectionBytes> CompactInfo<D> {
     /// Returns what the info unwinds a frame by.
-    #[inline(always)]
     fn entry<A: Unwinding>(
         &self,
         lookup: Lookup,
@@ -291,7 +290,6 @@ impl<D: SectionBytes> CompactInfo<D> {
     }
 
     /// Returns what the info gives: a rule, or the offset of an FDE.
-    #[inline(always)]
     pub fn rule_or_fde_offset<A: Unwinding>(
         &self,
         lookup: Lookup,

@@ -1,12 +1,15 @@
 //! Unwinding by a module's unwind data.
 //!
-//! What a frame is unwound by, an FDE or PE unwind info, has one function, and both have one contract: `UnwindsBy` the
-//! answer that the data gives. A rule is returned, so that it can be stored before it is run; values that are computed
-//! are written to the registers at once.
+//! Each kind of data has one function, and all have one contract: `UnwindsBy` the answer that the data gives. A
+//! rule is returned, so that it can be stored before it is run; values that are computed are written to the
+//! registers at once.
 ghost use Rattle.std.specs.Prelude.{◌≡◌, ◌≢◌, ◌+◌, true, IsTrue, option_map, ℕ, List, Err};
 ghost use Rattle.framehop_core.specs.Step.{IfRule, WritesWithAddress};
-ghost use Rattle.framehop.specs.Unwinding.{Unwinding, answer_by, may_take_memory_by};
-ghost use Rattle.framehop.specs.CallFrames.{fde_answer};
+ghost use Rattle.framehop.specs.Unwinding.{Unwinding, entry_answer, entry_may_take_memory, answer_by, may_take_memory_by};
+ghost use Rattle.framehop.specs.CallFrames.{header_frames, fde_answer};
+ghost use Rattle.framehop.specs.Lookup.{compact_entry, entry_at};
+ghost use Rattle.framehop.specs.Modules.{call_frames};
+ghost use Rattle.framehop_macho.specs.Unwinder.{unwound};
 ghost use Rattle.framehop_dwarf.specs.MayTakeMemory.{may_take_memory};
 ghost use Rattle.framehop.specs.PlacedData.{placed_data};
 ghost use Rattle.framehop.specs.Answer.{fresh_of};
@@ -14,14 +17,17 @@ ghost use Rattle.framehop_pe.specs.Sections.{sections_of, placed_of};
 ghost use Rattle.framehop.specs.Told.{out_of_memory, UnwindsBy};
 
 use crate::cache::AllocationPolicy;
-use crate::lookup::{Lookup, UnwindEntry};
+use crate::lookup::{Lookup, SectionFde};
 use crate::modules::{Module, UnwinderError};
-use crate::unwind_data::PeInfo;
+use crate::unwind_data::{
+    CompactInfo, HeaderFrames, IndexedFrames, ModuleUnwindDataInternal, PeInfo,
+};
 use crate::unwinder::Unwinding;
 use framehop_bytes::section::SectionBytes;
 use framehop_cfi::context::UnwindContext;
 use framehop_core::unwind_result::UnwindResult;
 use framehop_dwarf::unwinder::DwarfUnwinder;
+use framehop_macho::macho::CuiUnwindResult;
 use framehop_pe::pe::{DataAtRvaRange, PeSections, PeUnwinding};
 use std::alloc::Global;
 
@@ -59,6 +65,133 @@ where
     ) {
         Ok(found) => Ok(found),
         Err(error) => Err(UnwinderError::Dwarf(error)),
+    }
+}
+
+impl SectionFde<'_> {
+    /// Unwinds a frame by the FDE.
+    #[inline(always)]
+    fn unwind<A: Unwinding, P: AllocationPolicy, F>(
+        self,
+        alloc: Global,
+        unwind_context: &mut UnwindContext<P::GimliUnwindContextStorage>,
+        lookup: Lookup,
+        regs: &mut A::UnwindRegs,
+        read_stack: &mut F,
+    ) -> Result<UnwindResult<A::UnwindRule>, UnwinderError>
+    where
+        F: FnMut(u64) -> Result<u64, ()>,
+        requires { F.IsAlwaysCallable read_stack.old }
+        ensures callable { F.IsAlwaysCallable read_stack.new }
+        ensures written { WritesWithAddress (A.step_advances lookup.is_first_frame) result regs.old regs.new }
+        ensures executable { IfRule result (λ rule. IsTrue (A.UnwindRule.executable rule)) }
+        ensures memory { result ≡ Err out_of_memory → may_take_memory
+            P.policy.rows P.policy.values self.entry.section (self.entry.base_svma + lookup.relative_address)
+            self.entry.offset ≡ true }
+        ensures unwound { UnwindsBy
+            (fde_answer A.readers.rows P.policy self.entry.section
+            (self.entry.base_svma + lookup.relative_address) lookup.is_first_frame self.entry.offset)
+            regs.old result regs.new F.FnMut read_stack.old read_stack.new }
+    {
+        let fde_offset = self.offset;
+        let mut unwinder = self.unwinder(unwind_context);
+        unwind_by_fde::<A, P, F>(&mut unwinder, alloc, lookup, fde_offset, regs, read_stack)
+    }
+}
+
+impl<D: SectionBytes> HeaderFrames<D> {
+    /// Unwinds a frame by the section.
+    fn unwind_by_header<A: Unwinding, P: AllocationPolicy, F>(
+        &self,
+        alloc: Global,
+        unwind_context: &mut UnwindContext<P::GimliUnwindContextStorage>,
+        lookup: Lookup,
+        regs: &mut A::UnwindRegs,
+        read_stack: &mut F,
+    ) -> Result<UnwindResult<A::UnwindRule>, UnwinderError>
+    where
+        F: FnMut(u64) -> Result<u64, ()>,
+        requires { F.IsAlwaysCallable read_stack.old }
+        ensures callable { F.IsAlwaysCallable read_stack.new }
+        ensures written { WritesWithAddress (A.step_advances lookup.is_first_frame) result regs.old regs.new }
+        ensures executable { IfRule result (λ rule. IsTrue (A.UnwindRule.executable rule)) }
+        ensures memory { result ≡ Err out_of_memory → entry_may_take_memory P.policy lookup.relative_address
+            (entry_at A.readers.compact (call_frames (header_frames self.now)) lookup.relative_address lookup.is_first_frame) ≡ true }
+        ensures unwound { UnwindsBy
+            (entry_answer A.readers P.policy lookup.relative_address lookup.is_first_frame
+            (entry_at A.readers.compact (call_frames (header_frames self.now)) lookup.relative_address lookup.is_first_frame))
+            regs.old result regs.new F.FnMut read_stack.old read_stack.new }
+    {
+        match self.fde(lookup.relative_address) {
+            Some(fde) => fde.unwind::<A, P, F>(alloc, unwind_context, lookup, regs, read_stack),
+            None => Err(UnwinderError::EhFrameHdrCouldNotFindAddress),
+        }
+    }
+}
+
+impl<D: SectionBytes> IndexedFrames<D> {
+    /// Unwinds a frame by the section.
+    fn unwind_by_index<A: Unwinding, P: AllocationPolicy, F>(
+        &self,
+        alloc: Global,
+        unwind_context: &mut UnwindContext<P::GimliUnwindContextStorage>,
+        lookup: Lookup,
+        regs: &mut A::UnwindRegs,
+        read_stack: &mut F,
+    ) -> Result<UnwindResult<A::UnwindRule>, UnwinderError>
+    where
+        F: FnMut(u64) -> Result<u64, ()>,
+        requires { F.IsAlwaysCallable read_stack.old }
+        ensures callable { F.IsAlwaysCallable read_stack.new }
+        ensures written { WritesWithAddress (A.step_advances lookup.is_first_frame) result regs.old regs.new }
+        ensures executable { IfRule result (λ rule. IsTrue (A.UnwindRule.executable rule)) }
+        ensures memory { result ≡ Err out_of_memory → entry_may_take_memory P.policy lookup.relative_address
+            (entry_at A.readers.compact (call_frames self.now) lookup.relative_address lookup.is_first_frame) ≡ true }
+        ensures unwound { UnwindsBy
+            (entry_answer A.readers P.policy lookup.relative_address lookup.is_first_frame
+            (entry_at A.readers.compact (call_frames self.now) lookup.relative_address lookup.is_first_frame))
+            regs.old result regs.new F.FnMut read_stack.old read_stack.new }
+    {
+        match self.fde(lookup.relative_address) {
+            Some(fde) => fde.unwind::<A, P, F>(alloc, unwind_context, lookup, regs, read_stack),
+            None => Err(UnwinderError::DwarfCfiIndexCouldNotFindAddress),
+        }
+    }
+}
+
+impl<D: SectionBytes> CompactInfo<D> {
+    /// Unwinds a frame by the info.
+    fn unwind_by_info<A: Unwinding, P: AllocationPolicy, F>(
+        &self,
+        alloc: Global,
+        unwind_context: &mut UnwindContext<P::GimliUnwindContextStorage>,
+        lookup: Lookup,
+        regs: &mut A::UnwindRegs,
+        read_stack: &mut F,
+    ) -> Result<UnwindResult<A::UnwindRule>, UnwinderError>
+    where
+        F: FnMut(u64) -> Result<u64, ()>,
+        requires { F.IsAlwaysCallable read_stack.old }
+        ensures callable { F.IsAlwaysCallable read_stack.new }
+        ensures written { WritesWithAddress (A.step_advances lookup.is_first_frame) result regs.old regs.new }
+        ensures executable { IfRule result (λ rule. IsTrue (A.UnwindRule.executable rule)) }
+        ensures memory { result ≡ Err out_of_memory → entry_may_take_memory P.policy lookup.relative_address
+            (compact_entry self.now.frames
+            (unwound A.readers.compact self.now.info lookup.relative_address lookup.is_first_frame)) ≡ true }
+        ensures unwound { UnwindsBy
+            (entry_answer A.readers P.policy lookup.relative_address lookup.is_first_frame
+            (compact_entry self.now.frames
+            (unwound A.readers.compact self.now.info lookup.relative_address lookup.is_first_frame)))
+            regs.old result regs.new F.FnMut read_stack.old read_stack.new }
+    {
+        match self.rule_or_fde_offset::<A>(lookup) {
+            Ok(CuiUnwindResult::ExecRule(rule)) => Ok(UnwindResult::ExecRule(rule)),
+            Ok(CuiUnwindResult::NeedDwarf(offset)) => match self.fde(offset) {
+                Some(fde) => fde.unwind::<A, P, F>(alloc, unwind_context, lookup, regs, read_stack),
+                None => Err(UnwinderError::NoDwarfData),
+            },
+            Err(error) => Err(UnwinderError::CompactUnwindInfo(error)),
+        }
     }
 }
 
@@ -143,15 +276,20 @@ impl<D: SectionBytes + Drop> Module<D> {
             (answer_by A.readers P.policy self.now lookup.relative_address lookup.is_first_frame)
             regs.old result regs.new F.FnMut read_stack.old read_stack.new }
     {
-        match self.unwind_entry::<A>(lookup) {
-            Ok(UnwindEntry::Fde(fde)) => {
-                let fde_offset = fde.offset;
-                let mut unwinder = fde.unwinder(unwind_context);
-                unwind_by_fde::<A, P, F>(&mut unwinder, alloc, lookup, fde_offset, regs, read_stack)
+        match self.unwind_data() {
+            ModuleUnwindDataInternal::EhFrameHdrAndEhFrame(frames) => {
+                frames.unwind_by_header::<A, P, F>(alloc, unwind_context, lookup, regs, read_stack)
             }
-            Ok(UnwindEntry::Rule(rule)) => Ok(UnwindResult::ExecRule(rule)),
-            Ok(UnwindEntry::Pe(info)) => info.unwind_by_pe::<A, F>(lookup, regs, read_stack),
-            Err(error) => Err(error),
+            ModuleUnwindDataInternal::CompactUnwindInfoAndEhFrame(info) => {
+                info.unwind_by_info::<A, P, F>(alloc, unwind_context, lookup, regs, read_stack)
+            }
+            ModuleUnwindDataInternal::DwarfCfiIndexAndFrames(frames) => {
+                frames.unwind_by_index::<A, P, F>(alloc, unwind_context, lookup, regs, read_stack)
+            }
+            ModuleUnwindDataInternal::PeUnwindInfo(info) => {
+                info.unwind_by_pe::<A, F>(lookup, regs, read_stack)
+            }
+            ModuleUnwindDataInternal::None(_) => Err(UnwinderError::NoModuleUnwindData),
         }
     }
 }

@@ -1,12 +1,25 @@
 -- The text of a file, one address at a time, and one function of a PE file at a time.
-use Rattle.std.proofs.Common.{◌≡◌, ◌∙◌, ◌<◌, ◌≤◌, ◌+◌, ℕ, List, [], ◌∷◌, ◌++◌, drop, drop-cons, length, get_or, refl, sym, ap, subst, append_assoc, append-nil, arith}
+use Rattle.std.proofs.Common.{◌≡◌, ◌∙◌, ◌<◌, ◌≤◌, ◌+◌, ◌^◌, Result, Ok, Err, lt-ltb, ℕ, List, [], ◌∷◌, ◌++◌, drop, drop-cons, length, get_or, refl, sym, ap, subst, append_assoc, append-nil, arith}
 use Rattle.std.proofs.Math.ListN.{drop_of_length-le}
 use Rattle.std.specs.List.{flat_map}
 use Rattle.framehop_pe.specs.FunctionTable.{function_at}
 use Rattle.framehop.specs.Modules.{UnwindData}
 use Rattle.framehop_explain.specs.Found.{Explaining}
 use Rattle.framehop_explain_cli.specs.Functions.{line}
-use Rattle.framehop_explain_cli.specs.FileText.{IsAddressText, AreAddressTexts, entry_text}
+use Rattle.framehop_explain_cli.specs.FileText.{IsToldOf, IsAddressText, AreAddressTexts, near_text, entry_text}
+use Rattle.framehop_explain.specs.declared.source.Source.{Source}
+use Rattle.framehop_explain.specs.declared.told.Told.{Told}
+use Rattle.std.specs.Prelude.{OnOk}
+
+module _ {R S : Type 0} (names : List (List ℕ)) (explaining : Explaining R S) (registers : S) (unwind_data : UnwindData) where
+  -- what is told of an address that is less than 4 GiB above the base, once it is appended
+  pub near-appended : {A E : Type 0} (address : ℕ) (source : Source) (told : Told R) (result : Result A E) (old new : List ℕ) → address < 2 ^ 32
+      → IsToldOf names explaining registers unwind_data address source told
+      → OnOk result (new ≡ old ++ near_text names explaining.text unwind_data address source told)
+      → OnOk result ((text : List ℕ) × IsAddressText names explaining registers unwind_data address text × (new ≡ old ++ text))
+  near-appended address source told (Ok done) old new within is appended =
+      (near_text names explaining.text unwind_data address source told, rw (lt-ltb address (2 ^ 32) within) (source, told, is, refl), appended)
+  near-appended address source told (Err error) old new within is appended = tt
 
 module _ {R S : Type 0} (names : List (List ℕ)) (explaining : Explaining R S) (registers : S) (unwind_data : UnwindData) (addresses : List ℕ) where
   -- with the texts of the addresses from one on, those so far are all
