@@ -180,7 +180,8 @@ def measure(pinned, lines, ours, program, theirs, here, there):
         there.setdefault(line, []).append(both[1][0][part])
 
 
-WAYS = ("C, one call", "C, callback for words", "C, callback for a word", "C, a frame a call", "Rust, walk_into", "Rust, walk_with", "Rust, iter_frames")
+WAYS = ("C, one call", "C, callback for words", "C, callback for a word", "C, a frame a call", "Rust, walk_into", "Rust, walk_with", "Rust, iter_frames",
+        "Rust, iter_frames_lazily")
 
 
 def measure_bindings(pinned, inputs, name, bindings, here, there):

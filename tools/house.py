@@ -21,7 +21,7 @@ STOREYS = {
     "Programs": "walk walk_cli explain_cli check_cli stacks_cli cli disk",
     "Stacks": "backtrace check columns dump_stacks explain flame_graph frames perf_stacks runs symbols",
     "The library": "framehop lent c dwarf processes",
-    "Formats": "cfi code coredump elf folded macho minidump pe pe_file recording signal",
+    "Formats": "cfi code coredump elf folded macho minidump pe pe_file recording",
     "Bytes and registers": "analysis bytes cache core inflate memory output",
 }
 # on these nearly all stand: a line to them is drawn in their storey only

@@ -29,10 +29,11 @@ run_alone() {
 
 # ---- the first output
 
-# Interprets the program on its arguments; its output goes to $work/tried, and its status to $work/status. Fails where rt has no
-# answer, as beyond its limits of steps, time and output.
+# Interprets the program on its arguments, in another folder, so files are named by their whole paths; its output goes to
+# $work/tried, and its status to $work/status. Fails where rt has no answer, as beyond its limits of steps, time and output.
 interpret() {
-    local arguments=() argument ended
+    local argument ended
+    arguments=()
     for argument in "$@"; do
         [ ! -e "$argument" ] || argument=$(realpath -- "$argument")
         arguments+=("$argument")
@@ -68,11 +69,11 @@ reply_first() {
     return 1
 }
 
-# Runs the built program where the interpreted one has replied, and compares the two outputs.
+# Runs the built program on the arguments to which the interpreted one has replied, and compares the two outputs.
 compare_with_first() {
     local status first
     first=$(cat "$work/status")
-    "$built" "$@" >"$work/output" 2>"$work/messages"
+    "$built" "${arguments[@]}" >"$work/output" 2>"$work/messages"
     status=$?
     if [ "$status" = "$first" ] && cmp -s "$work/tried" "$work/output"; then
         say "proved and built; the built program gives the same output"
@@ -80,7 +81,7 @@ compare_with_first() {
     fi
     cp "$work/tried" "$top/out/$name.interpreted"
     cp "$work/output" "$top/out/$name.output"
-    say "the built program gives another output (status $status and not $first): compare out/$name.interpreted and out/$name.output"
+    say "the built program gives another output (status $status, and of the first $first): compare out/$name.interpreted and out/$name.output"
     exit 3
 }
 
@@ -110,5 +111,5 @@ if [ -n "$replied" ] && [ "$(cat "$work/status")" != 0 ] && [ ! -s "$work/tried"
     exit "$(cat "$work/status")"
 fi
 build || exit 1
-[ -z "$replied" ] || compare_with_first "$@"
+[ -z "$replied" ] || compare_with_first
 "$built" "$@"

@@ -1,11 +1,12 @@
 #!/usr/bin/env python3
 """Runs the cases of checks/cases/ by a program over the archive, and compares what it prints:
 
-    cases.py c|rust window|callback|chunks|frames [--only TOPIC] PROGRAM..
+    cases.py c|rust window|callback|chunks|frames|ahead [--only TOPIC] PROGRAM..
     cases.py words FILE POLICY
 
 PROGRAM reads a case as words with spaces between (`words_of`), and prints what `framehop-walk` does. With `window` its
-walks are one call, with `callback` they call back for each word, with `chunks` for many words at once; with `frames`, which is C's only, a frame a call. What can't be asked
+walks are one call, with `callback` they call back for each word, with `chunks` for many words at once; with `frames`, which is C's only, a frame a call,
+and with `ahead`, which is Rust's, by an iterator that finds frames ahead. What can't be asked
 for through C is left out: `fits_c`. The status is 1 where a case fails, or fewer than LEAST run. `words` prints the words of
 a file.
 """
@@ -105,8 +106,9 @@ def main():
         return
     only = program[1] if program[0] == "--only" else ""
     program = program[2 if only else 0 :]
-    # a retry of a loop over a callback counts, but for Rust's iterator
-    same = without_stats if (language, mode) in (("c", "callback"), ("c", "chunks"), ("c", "frames"), ("rust", "chunks")) else str.splitlines
+    # a retry of a loop over a callback counts, but for Rust's iterator, and so do frames that are found ahead
+    counting = (("c", "callback"), ("c", "chunks"), ("c", "frames"), ("rust", "chunks"), ("rust", "ahead"))
+    same = without_stats if (language, mode) in counting else str.splitlines
     count, left_out, failed = 0, 0, 0
     for name, text, expected in cases():
         case = json.loads(text)

@@ -98,7 +98,7 @@ def main():
             file = Path(folder) / "case.json"
             file.write_text(json.dumps(case))
             wanted = replies(subprocess.run([*original.split(), file], capture_output=True, text=True).stdout)
-            for mode in ("callback", "window", "chunks"):
+            for mode in ("callback", "window", "chunks", "ahead"):
                 ran = subprocess.run([*program, mode], input=words_of(case, case["policy"]), capture_output=True, text=True)
                 found = replies(ran.stdout)
                 walks += WALKS

@@ -165,6 +165,7 @@ if command -v cargo > /dev/null; then
     python3 "$here/cases.py" rust window "$CARGO_TARGET_DIR/debug/examples/cases"
     python3 "$here/cases.py" rust callback "$CARGO_TARGET_DIR/debug/examples/cases"
     python3 "$here/cases.py" rust chunks "$CARGO_TARGET_DIR/debug/examples/cases"
+    python3 "$here/cases.py" rust ahead "$CARGO_TARGET_DIR/debug/examples/cases"
     # a handler of crashes, beside std
     cargo build --offline --quiet --example crash
     clang -Wall -Wextra -Werror -shared -fPIC -O1 "$here/signal_malloc.c" -o "$work/signal_malloc.so"
@@ -177,7 +178,7 @@ if command -v cargo > /dev/null; then
         sanitized build --example cases
         sanitized build --example crash
         python3 "$here/crash.py" "$CARGO_TARGET_DIR/$host/debug/examples/crash"
-        for mode in window callback chunks; do
+        for mode in window callback chunks ahead; do
             python3 "$here/cases.py" rust $mode "$CARGO_TARGET_DIR/$host/debug/examples/cases"
         done
         echo "Rust: no error under the address sanitizer"
@@ -189,6 +190,7 @@ if command -v cargo > /dev/null; then
             $quiet "$tests" --test-threads 1 > "$work/tests" || { cat "$work/tests"; exit 1; }
         done
         python3 "$here/cases.py" rust callback --only walks $quiet "$CARGO_TARGET_DIR/debug/examples/cases"
+        python3 "$here/cases.py" rust ahead --only walks $quiet "$CARGO_TARGET_DIR/debug/examples/cases"
         # the crash is the one error, twice
         valgrind "$CARGO_TARGET_DIR/debug/examples/crash" deep > "$work/crash" 2>&1 || true
         grep -q '^the root of the stack$' "$work/crash" && grep -q 'ERROR SUMMARY: 2 errors from 1 contexts' "$work/crash" \

@@ -1,9 +1,10 @@
-"""commands.py KIND ITEMS: a list of commands for framehop-walk with many items of one kind, each made to cost a square where a program is
+"""commands.py KIND ITEMS FOLDER: a list of commands for framehop-walk with many items of one kind, each made to cost a square where a program is
 careless.
 
 Each function of KINDS returns the commands of a number of items.
 """
 import json
+import os
 import struct
 import sys
 
@@ -97,6 +98,7 @@ def document(commands):
 
 
 if __name__ == "__main__":
-    if len(sys.argv) != 3 or sys.argv[1] not in KINDS:
+    if len(sys.argv) != 4 or sys.argv[1] not in KINDS:
         sys.exit(__doc__ + "\nKinds: " + ", ".join(KINDS))
-    print(document(KINDS[sys.argv[1]](int(sys.argv[2]))))
+    with open(os.path.join(sys.argv[3], "commands.json"), "w") as file:
+        file.write(document(KINDS[sys.argv[1]](int(sys.argv[2]))))

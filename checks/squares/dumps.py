@@ -235,20 +235,26 @@ def uleb128(number):
     return encoded + bytes([number])
 
 
-def walked_by_row(instructions):
-    """A mapped file of one function with these call frame instructions, by which the CFA is rsp + 8, and a stack of 600 return
-    addresses in it."""
-    pad = lambda entry: entry + bytes(-len(entry) % 8)
-    frames_at = PAGE
-    cie = pad(bytes(4) + bytes([1, 0, 1, 0x78, 16, 0x0C, 7, 8, 0x90, 1]))
-    section = struct.pack("<I", len(cie)) + cie
-    fde = pad(struct.pack("<IQQ", len(section) + 4, 0x10, 0xF0) + instructions)
-    section += struct.pack("<I", len(fde)) + fde + bytes(4)
+def pad_entry(entry):
+    return entry + bytes(-len(entry) % 8)
+
+
+def cfi_entry(body):
+    return struct.pack("<I", len(pad_entry(body))) + pad_entry(body)
+
+
+def cie(more=b""):
+    """The CFA is rsp + 8, and the return address is below it."""
+    return cfi_entry(bytes(4) + bytes([1, 0, 1, 0x78, 16, 0x0C, 7, 8, 0x90, 1]) + more)
+
+
+def walked_by(section, code_size=PAGE):
+    """A mapped file of this `.eh_frame`, after code of a size, and a stack of 600 return addresses in the code."""
     names = b"\0.eh_frame\0.shstrtab\0"
-    loaded = bytes(64 + 56).ljust(frames_at, b"\xcc") + section
+    loaded = bytes(64 + 56).ljust(code_size, b"\xcc") + section + bytes(4)
     head = b"\x7fELF\2\1\1" + bytes(9) + struct.pack("<HHIQQQIHHHHHH", 3, 62, 1, 0, 64, len(loaded) + len(names), 0, 64, 56, 1, 64, 3, 2)
     code = struct.pack("<IIQQQQQQ", PT_LOAD, 5, 0, 0, 0, len(loaded), len(loaded), PAGE)
-    frames = struct.pack("<IIQQQQIIQQ", 1, 1, 2, frames_at, frames_at, len(section), 0, 0, 8, 0)
+    frames = struct.pack("<IIQQQQIIQQ", 1, 1, 2, code_size, code_size, len(section) + 4, 0, 0, 8, 0)
     texts = struct.pack("<IIQQQQIIQQ", 11, 3, 0, 0, len(loaded), len(names), 0, 0, 1, 0)
     file = head + code + loaded[120:] + names + bytes(64) + frames + texts
     base = 0x10000000
@@ -257,6 +263,12 @@ def walked_by_row(instructions):
     stack = struct.pack("<Q", base + 0x20) * 600
     segments = [(PT_NOTE, 0, 0, b"".join(listed)), (PT_LOAD, 5, base, file[:PAGE]), (PT_LOAD, 6, STACKS, stack)]
     return {"dump": elf(4, segments), "root/lib/code.so": file}
+
+
+def walked_by_row(instructions):
+    """A mapped file of one function with these call frame instructions, by which the CFA is rsp + 8."""
+    section = cie()
+    return walked_by(section + cfi_entry(struct.pack("<IQQ", len(section) + 4, 0x10, 0xF0) + instructions))
 
 
 def many_rules(count):
@@ -275,6 +287,16 @@ def long_expression(count):
     jump = b"\x2f" + struct.pack("<h", -3)
     expression = uleb128(count + 3) + b"\x96" * count + jump
     return walked_by_row(b"".join(b"\x16" + bytes([register]) + expression for register in (0, 1, 2, 3, 4, 5, 8, 9, 10, 11)))
+
+
+def cies_in_turn(count):
+    """A mapped file of as many functions, whose FDEs lead to two CIEs in turn, each of as many instructions."""
+    one = cie(bytes(count))
+    at, parts = 2 * len(one), [one, one]
+    for index in range(count):
+        parts.append(cfi_entry(struct.pack("<IQQ", at + 4 - index % 2 * len(one), 0x10 + 16 * index, 16)))
+        at += len(parts[-1])
+    return walked_by(b"".join(parts), PAGE * (1 + 16 * count // PAGE))
 
 
 def minidump(streams, tail):
@@ -364,7 +386,7 @@ def write(folder, files):
 
 KINDS = {function.__name__.replace("_", "-"): function for function in (
     threads, threads_backwards, segments_in_turn, one_stack, overlapping, masks, paths, code_in_memory, overlapping_files, mappings_of_one_file, shared_images, one_image, shared_headers,
-    names_of_one_file, shared_code, section_names, notes_of_one_place, many_rules, long_fde, long_expression, minidump_threads, minidump_modules, minidump_shared_headers, minidump_maps, minidump_streams)}
+    names_of_one_file, shared_code, section_names, notes_of_one_place, many_rules, long_fde, long_expression, cies_in_turn, minidump_threads, minidump_modules, minidump_shared_headers, minidump_maps, minidump_streams)}
 
 if __name__ == "__main__":
     if len(sys.argv) != 4:

@@ -1,7 +1,8 @@
-"""elf_files.py KIND ITEMS FILE: an ELF file of x86_64 with many items of one kind, each made to cost a square where a program is careless.
+"""elf_files.py KIND ITEMS FOLDER: an ELF file of x86_64 with many items of one kind, each made to cost a square where a program is careless.
 
 Each function of KINDS returns the code, the call frame section and the symbols of a number of items.
 """
+import os
 import struct
 import sys
 
@@ -141,5 +142,5 @@ def elf(code, section, names):
 if __name__ == "__main__":
     if len(sys.argv) != 4 or sys.argv[1] not in KINDS:
         sys.exit(__doc__ + "\nKinds: " + ", ".join(KINDS))
-    with open(sys.argv[3], "wb") as file:
+    with open(os.path.join(sys.argv[3], "code.so"), "wb") as file:
         file.write(elf(*KINDS[sys.argv[1]](int(sys.argv[2]))))

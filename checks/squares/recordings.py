@@ -1,26 +1,13 @@
-#!/usr/bin/env python3
-"""recordings.py KIND COUNT FILE: writes a recording of perf that has COUNT items of a kind, which no machine made.
+"""recordings.py KIND ITEMS FOLDER: a recording of perf that has many items of a kind, which no machine made, each made to cost a square
+where a program is careless.
 
-The kinds:
-
-    maps        mappings of one process, one above the other
-    maps_down   the same, one below the other
-    split       mappings into the middle of one that covers them all
-    over        a mapping over all that came before, after every 100 of them
-    over_all    mappings, and one over them all
-    forks       a process with COUNT mappings, and as many processes that begin as its copies
-    forks_map   the same, of which each maps a file then
-    forks_sampled   forks of a process that no sample is of, each with a sample
-    forks_map_sampled   forks that each map a file, each with a sample: each has an unwinder of its own
-    maps_down_sampled   mappings one below the other, each with a sample after it
-    samples     samples of a process on aarch64 with COUNT mappings, as many
-    build_ids   mappings of COUNT files, of each of which the recording has a build id
-    names       a process with a name of 60,000 letters, and COUNT threads that it begins
-    ids         COUNT events, each with an id, and as many samples
+Each function of KINDS returns the files of a number of items, by their names: `recording`, what is below `root`, which is given by
+`--root`, and maps of `--perf-map` below `maps`. A number in the place of bytes is the size of a file of which nothing is stored.
 
 Layout: Linux, include/uapi/linux/perf_event.h, and tools/perf/Documentation/perf.data-file-format.txt.
 """
 
+import os
 import struct
 import sys
 
@@ -79,67 +66,15 @@ def sample_of_x86_64(pid, pc):
     return sample(pid, pc, registers)
 
 
-def maps(count):
+def mapped(count):
     return [mapping(1, FIRST + 2 * PAGE * at, PAGE, "/srv/a") for at in range(count)]
 
 
-def maps_down(count):
-    return maps(count)[::-1]
-
-
-def split(count):
-    return [mapping(1, FIRST, 2 * PAGE * count + PAGE, "/srv/a")] + [
-        mapping(1, FIRST + 2 * PAGE * at + PAGE, PAGE, "/srv/b") for at in range(count)
-    ]
-
-
-def over(count):
-    made = []
-    for at in range(count):
-        made.append(mapping(1, FIRST + 2 * PAGE * at, PAGE, "/srv/a"))
-        if at % 100 == 99:
-            made.append(mapping(1, FIRST, 2 * PAGE * at + 2 * PAGE, "/srv/b"))
-    return made
-
-
-def over_all(count):
-    return maps(count) + [mapping(1, FIRST, 2 * PAGE * count + PAGE, "/srv/b")]
-
-
-def forks(count):
-    return maps(count) + [fork(2 + at, 1) for at in range(count)]
-
-
-def forks_map(count):
-    return forks(count) + [mapping(2 + at, FIRST + PAGE, PAGE, "/srv/b") for at in range(count)]
-
-
-def forks_sampled(count):
-    return forks(count) + [sample_of_x86_64(2 + at, FIRST + 8) for at in range(count)]
-
-
-def forks_map_sampled(count):
-    return forks_map(count) + [sample_of_x86_64(2 + at, FIRST + 8) for at in range(count)]
-
-
-def maps_down_sampled(count):
-    return [record for made in maps_down(count) for record in (made, sample_of_x86_64(1, FIRST + 8))]
-
-
-def samples(count):
-    return maps(count) + [sample_of_aarch64(1, FIRST + 2 * PAGE * at + 8) for at in range(count)]
-
-
-def build_ids(count):
-    return [mapping(1, FIRST + 2 * PAGE * at, PAGE, f"/srv/{at:06}") for at in range(count)]
-
-
-def names(count):
-    return [comm(1, "x" * 60000)] + [thread(1, 2 + at) for at in range(count)]
-
-
-def ids(count):
-    return maps(1) + [sample_of_aarch64(1, FIRST + 8, 1 + at) for at in range(count)]
+def code_file(size):
+    """An ELF file of a size, whose one segment is code."""
+    code = struct.pack("<IIQQQQQQ", 1, 5, 0, 0, 0, size, size, PAGE)
+    head = b"\x7fELF\2\1\1" + bytes(9) + struct.pack("<HHIQQQIHHHHHH", 3, 62, 1, 0, 64, 0, 0, 64, 56, 1, 64, 0, 0)
+    return (head + code).ljust(size, b"\xcc")
 
 
 def build_id_record(name, at):
@@ -147,8 +82,9 @@ def build_id_record(name, at):
     return record(0, BUILD_ID_SIZE, struct.pack("<i", -1) + build_id + bytes([20, 0, 0, 0]) + padded(name))
 
 
-def recording(body, registers, events, features):
-    """A recording of so many events. Each of several has an id, from 1 on."""
+def recording(records, registers=X86_64_REGISTERS, events=1, features=b""):
+    """The files of a recording of so many events. Each of several has an id, from 1 on."""
+    body = b"".join(records)
     attributes_at = 104
     fields = IP | TID | REGS_USER | STACK_USER | (IDENTIFIER if events > 1 else 0)
     attribute = struct.pack("<IIQQQQQ", 1, 128, 0, 1000, fields, 0, 0)
@@ -165,23 +101,167 @@ def recording(body, registers, events, features):
     whole = header + entries + (struct.pack(f"<{events}Q", *range(1, events + 1)) if events > 1 else b"") + body
     if features:
         whole += struct.pack("<QQ", len(whole) + 16, len(features)) + features
-    return whole
+    return {"recording": whole}
 
 
-def main():
-    kind, count = sys.argv[1], int(sys.argv[2])
-    made = {
-        f.__name__: f
-        for f in (
-            maps, maps_down, split, over, over_all, forks, forks_map, forks_sampled, forks_map_sampled, maps_down_sampled, samples,
-            build_ids, names, ids,
-        )
-    }[kind](count)
-    events = count if kind == "ids" else 1
-    features = b"".join(build_id_record(f"/srv/{at:06}", at) for at in range(count)) if kind == "build_ids" else b""
-    registers = AARCH64_REGISTERS if kind in ("samples", "ids") else X86_64_REGISTERS
-    with open(sys.argv[3], "wb") as file:
-        file.write(recording(b"".join(made), registers, events, features))
+def maps(count):
+    """Mappings of one process, one above the other."""
+    return recording(mapped(count))
 
 
-main()
+def maps_down(count):
+    """The same, one below the other."""
+    return recording(mapped(count)[::-1])
+
+
+def split(count):
+    """Mappings into the middle of one that covers them all."""
+    return recording([mapping(1, FIRST, 2 * PAGE * count + PAGE, "/srv/a")] + [
+        mapping(1, FIRST + 2 * PAGE * at + PAGE, PAGE, "/srv/b") for at in range(count)
+    ])
+
+
+def over(count):
+    """A mapping over all that came before, after every 100 of them."""
+    made = []
+    for at in range(count):
+        made.append(mapping(1, FIRST + 2 * PAGE * at, PAGE, "/srv/a"))
+        if at % 100 == 99:
+            made.append(mapping(1, FIRST, 2 * PAGE * at + 2 * PAGE, "/srv/b"))
+    return recording(made)
+
+
+def over_all(count):
+    """Mappings, and one over them all."""
+    return recording(mapped(count) + [mapping(1, FIRST, 2 * PAGE * count + PAGE, "/srv/b")])
+
+
+def forked(count):
+    return mapped(count) + [fork(2 + at, 1) for at in range(count)]
+
+
+def sampled(count):
+    return [sample_of_x86_64(2 + at, FIRST + 8) for at in range(count)]
+
+
+def forks(count):
+    """A process with as many mappings, and as many processes that begin as its copies."""
+    return recording(forked(count))
+
+
+def forks_map(count):
+    """The same, of which each maps a file then."""
+    return recording(forked(count) + [mapping(2 + at, FIRST + PAGE, PAGE, "/srv/b") for at in range(count)])
+
+
+def forks_sampled(count):
+    """Forks of a process that no sample is of, each with a sample."""
+    return recording(forked(count) + sampled(count))
+
+
+def forks_map_sampled(count):
+    """Forks that each map a file, all at one address, each with a sample: each has an unwinder of its own."""
+    return recording(forked(count) + [mapping(2 + at, FIRST + PAGE, PAGE, "/srv/b") for at in range(count)] + sampled(count))
+
+
+def forks_map_apart_sampled(count):
+    """The same, each at an address of its own."""
+    return recording(forked(count) + [mapping(2 + at, FIRST + 2 * PAGE * at + PAGE, PAGE, "/srv/b") for at in range(count)] + sampled(count))
+
+
+def forks_in_turn_sampled(count):
+    """Each is a fork of the one before, maps a file and has a sample: processes of one mapping up to as many."""
+    made = mapped(1)
+    for at in range(count):
+        made += [fork(2 + at, 1 + at), mapping(2 + at, FIRST + 2 * PAGE * (1 + at), PAGE, "/srv/b"), sample_of_x86_64(2 + at, FIRST + 8)]
+    return recording(made)
+
+
+def maps_down_sampled(count):
+    """Mappings one below the other, each with a sample after it."""
+    return recording([made for one in mapped(count)[::-1] for made in (one, sample_of_x86_64(1, FIRST + 8))])
+
+
+def samples(count):
+    """Samples of a process on aarch64 with as many mappings."""
+    made = [sample_of_aarch64(1, FIRST + 2 * PAGE * at + 8) for at in range(count)]
+    return recording(mapped(count) + made, AARCH64_REGISTERS)
+
+
+def build_ids(count):
+    """Mappings of as many files, of each of which the recording has a build id."""
+    made = [mapping(1, FIRST + 2 * PAGE * at, PAGE, f"/srv/{at:06}") for at in range(count)]
+    return recording(made, features=b"".join(build_id_record(f"/srv/{at:06}", at) for at in range(count)))
+
+
+def names(count):
+    """A process with a name of 60,000 letters, and as many threads that it begins."""
+    return recording([comm(1, "x" * 60000)] + [thread(1, 2 + at) for at in range(count)])
+
+
+def ids(count):
+    """Events, each with an id, and as many samples."""
+    return recording(mapped(1) + [sample_of_aarch64(1, FIRST + 8, 1 + at) for at in range(count)], AARCH64_REGISTERS, events=count)
+
+
+def sampled_once(paths):
+    """A process that maps these files, with a sample in the first."""
+    made = [mapping(1, FIRST + 0x100000 * at, PAGE, path) for at, path in enumerate(paths)]
+    return recording(made + [sample_of_x86_64(1, FIRST + 8)])
+
+
+def files(count):
+    """An eighth as many mapped files, each of 16 KB, and a sample in the first."""
+    paths = [f"/srv/{at:06}" for at in range(count // 8)]
+    return sampled_once(paths) | {f"root{path}": code_file(0x4000) for path in paths}
+
+
+def names_of_one_file(count):
+    """A mapped file of 16 KB, by as many names: in each of 16 places the path has a slash, or a dot between two."""
+    ways = lambda at: "".join("/./" if at >> bit & 1 else "/" for bit in range(16))
+    return sampled_once([f"/srv{ways(at)}a" for at in range(count)]) | {"root/srv/a": code_file(0x4000)}
+
+
+def large_file(count):
+    """A mapped file of a MB for each, which is no ELF file."""
+    return sampled_once(["/srv/a"]) | {"root/srv/a": count << 20}
+
+
+def anonymous(count, perf_map):
+    """A process of code in no file, with as many samples and a map of perf."""
+    made = [mapping(1, FIRST, PAGE * count, "//anon")] + [sample_of_x86_64(1, FIRST + PAGE * at + 8) for at in range(count)]
+    return recording(made) | {"maps/perf-1.map": perf_map}
+
+
+def map_of_perf(count):
+    """A map of perf of as many functions, each of which lies over all later ones, and as many samples."""
+    lines = "".join(f"{FIRST + PAGE * at:x} {PAGE * (count - at):x} f{at}\n" for at in range(count))
+    return anonymous(count, lines.encode())
+
+
+def large_map_of_perf(count):
+    """A map of perf of 64 MB for each sample."""
+    return anonymous(count, count << 26)
+
+
+def write(folder, made):
+    """Writes files into a folder. Of a number of bytes nothing is stored."""
+    for name, data in made.items():
+        path = os.path.join(folder, name)
+        os.makedirs(os.path.dirname(path), exist_ok=True)
+        with open(path, "wb") as file:
+            if isinstance(data, int):
+                file.truncate(data)
+            else:
+                file.write(data)
+
+
+KINDS = {function.__name__.replace("_", "-"): function for function in (
+    maps, maps_down, split, over, over_all, forks, forks_map, forks_sampled, forks_map_sampled, forks_map_apart_sampled,
+    forks_in_turn_sampled, maps_down_sampled, samples, build_ids, names, ids, files, names_of_one_file, large_file, map_of_perf,
+    large_map_of_perf)}
+
+if __name__ == "__main__":
+    if len(sys.argv) != 4 or sys.argv[1] not in KINDS:
+        sys.exit(__doc__ + "\nKinds: " + ", ".join(KINDS))
+    write(sys.argv[3], KINDS[sys.argv[1]](int(sys.argv[2])))

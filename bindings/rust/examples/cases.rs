@@ -1,7 +1,7 @@
 //! Carries out a case that `bindings/test/cases.py` writes, and prints what `framehop-walk` does: `cases window` with
-//! walks that are one call, `cases callback` with walks by an iterator, `cases chunks` with a callback that reads as many
-//! words as it can; `cases time N` with walks that are one call, which are made N times more in each way, and tells the
-//! nanoseconds of a frame.
+//! walks that are one call, `cases callback` with walks by an iterator that finds a frame a call, `cases ahead` with one that
+//! finds frames ahead, `cases chunks` with a callback that reads as many words as it can; `cases time N` with walks that are
+//! one call, which are made N times more in each way, and tells the nanoseconds of a frame.
 use framehop_rattle::aarch64::{CacheAarch64, PtrAuthMask, UnwindRegsAarch64, UnwinderAarch64};
 use framehop_rattle::x86_64::{CacheX86_64, Reg, UnwindRegsX86_64, UnwinderX86_64};
 use framehop_rattle::{
@@ -134,6 +134,7 @@ trait Architecture {
 enum Mode {
     Window,
     Callback,
+    Ahead,
     Chunks,
     Time(usize),
 }
@@ -292,9 +293,13 @@ fn frames_of<A: Architecture>(
     regs: &mut A::Regs,
     cache: &mut A::Cache,
     memory: &Memory,
+    mode: Mode,
 ) -> (Vec<u64>, Result<bool, Error>) {
     let mut read_stack = |address| memory.word(address);
-    let mut iter = unwinder.iter_frames(pc, *regs, cache, &mut read_stack);
+    let mut iter = match mode {
+        Mode::Ahead => unwinder.iter_frames(pc, *regs, cache, &mut read_stack),
+        _ => unwinder.iter_frames_lazily(pc, *regs, cache, &mut read_stack),
+    };
     let mut frames = Vec::new();
     let end = loop {
         if frames.len() == limit {
@@ -315,8 +320,8 @@ fn walk<A: Architecture>(words: &mut Words, unwinder: &A::Unwinder, cache: &mut 
     let mut regs = A::regs(words);
     let memory = Memory::read_from(words);
     let start = regs;
-    let (frames, end) = if mode == Mode::Callback {
-        frames_of::<A>(unwinder, pc, limit, &mut regs, cache, &memory)
+    let (frames, end) = if matches!(mode, Mode::Callback | Mode::Ahead) {
+        frames_of::<A>(unwinder, pc, limit, &mut regs, cache, &memory, mode)
     } else {
         // no case has so many frames
         let mut frames = vec![0; limit.min(1_000_000)];
@@ -356,18 +361,23 @@ fn time<A: Architecture>(
         let walk = |_| walk(unwinder, pc, &mut { start }, cache, memory, &mut frames).0;
         tell(way, (0..times).map(walk).sum(), before);
     }
-    let before = Instant::now();
-    let mut count = 0;
-    for _ in 0..times {
-        let mut read_stack = |address| memory.word(address);
-        let mut iter = unwinder.iter_frames(pc, start, cache, &mut read_stack);
-        let mut left = limit;
-        while left > 0 && matches!(iter.next(), Ok(Some(_))) {
-            left -= 1;
+    for is_lazy in [false, true] {
+        let before = Instant::now();
+        let mut count = 0;
+        for _ in 0..times {
+            let mut read_stack = |address| memory.word(address);
+            let mut iter = match is_lazy {
+                true => unwinder.iter_frames_lazily(pc, start, cache, &mut read_stack),
+                false => unwinder.iter_frames(pc, start, cache, &mut read_stack),
+            };
+            let mut left = limit;
+            while left > 0 && matches!(iter.next(), Ok(Some(_))) {
+                left -= 1;
+            }
+            count += limit - left;
         }
-        count += limit - left;
+        tell(if is_lazy { "iter_frames_lazily" } else { "iter_frames" }, count, before);
     }
-    tell("iter_frames", count, before);
 }
 
 fn tell(way: &str, frames: usize, before: Instant) {
@@ -443,6 +453,7 @@ fn run<A: Architecture>(words: &mut Words, mode: Mode) {
 fn main() {
     let mode = match std::env::args().nth(1).as_deref() {
         Some("callback") => Mode::Callback,
+        Some("ahead") => Mode::Ahead,
         Some("chunks") => Mode::Chunks,
         Some("time") => Mode::Time(std::env::args().nth(2).and_then(|it| it.parse().ok()).expect("a number")),
         _ => Mode::Window,

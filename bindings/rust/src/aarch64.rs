@@ -1,8 +1,7 @@
 //! Unwinding on aarch64.
-use crate::unwinder::{
-    Ahead, Frame, FrameWords, Kept, Step, Unwinder, end_of, next_with, step_with, unwinder, walk_with,
-};
-use crate::words::Known;
+use crate::iterator::Run;
+use crate::layouts::Pointers;
+use crate::unwinder::{Frame, FrameWords, Kept, Step, Unwinder, end_of, step_with, unwinder, walk_with};
 use crate::{
     AllocationPolicy, CacheStats, Error, FrameAddress, Generations, MayAllocateDuringUnwind, Module, ModuleListError,
     Owned, raw,
@@ -80,12 +79,15 @@ impl UnwindRegsAarch64 {
 }
 
 impl FrameWords for UnwindRegsAarch64 {
-    fn stack_pointer(&self) -> u64 {
-        self.sp()
+    #[inline]
+    fn pointers(&self) -> Pointers {
+        Pointers { stack: self.sp(), frame: self.fp() }
     }
 
-    fn frame_pointer(&self) -> u64 {
-        self.fp()
+    #[inline]
+    /// A rule by frame records ends at the frame pointer 0, and is refused where it does not rise.
+    fn leads_on(frame_pointer: u64, caller_frame_pointer: u64) -> bool {
+        frame_pointer < caller_frame_pointer
     }
 
     /// Each rule reads it first.

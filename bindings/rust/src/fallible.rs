@@ -1,6 +1,5 @@
 //! Iterators whose calls may fail.
-use crate::unwinder::{UnwindIterator, Unwinder};
-use crate::{Error, FrameAddress};
+use crate::{Error, FrameAddress, UnwindIterator, Unwinder};
 
 /// An iterator whose calls may fail: of the shape of `FallibleIterator` of the crate `fallible-iterator`, which this
 /// crate does not stand on.

@@ -3,9 +3,10 @@
 //!
 //! A rule of the archive's cache asks for words that lie at constant offsets from the stack pointer, or from the frame
 //! pointer. So one step shows them for each later one with the same distance between both pointers, and a second one with
-//! another distance shows from which of the two they are counted. A layout only says what is read before a step: which
-//! frame the words lead to is the archive's to say, and a word that it asks for besides is read for it.
-use crate::unwinder::FrameWords;
+//! another distance shows from which of the two they are counted. The words lead on to the caller's stack pointer and frame
+//! pointer, and so to its own words. A layout only says what is read before a step: which frame the words lead to is the
+//! archive's to say, and a word that it asks for besides is read for it.
+use crate::words::Known;
 use crate::{ModuleListError, raw};
 
 /// How many sets of two layouts are kept, a power of two.
@@ -21,6 +22,26 @@ enum Base {
     FramePointer,
 }
 
+/// Where the caller's frame pointer comes from.
+#[derive(Clone, Copy, PartialEq, Eq)]
+enum Restored {
+    /// The steps so far can't tell.
+    Unknown,
+    /// It is the callee's.
+    Kept,
+    /// It is the first word.
+    First,
+    /// It is the second word.
+    Second,
+}
+
+/// The stack pointer and the frame pointer of a frame.
+#[derive(Clone, Copy, PartialEq, Eq)]
+pub struct Pointers {
+    pub stack: u64,
+    pub frame: u64,
+}
+
 /// How far from its base a layout may have a word, or the caller's stack pointer, in bytes. Offsets in rules are below 2^20.
 const FARTHEST: u64 = 1 << 24;
 
@@ -29,6 +50,7 @@ const FARTHEST: u64 = 1 << 24;
 pub(crate) struct Layout {
     base: Base,
     count: u8,
+    frame_pointer: Restored,
     first: i32,
     second: i32,
     /// The offset of the caller's stack pointer.
@@ -38,15 +60,22 @@ pub(crate) struct Layout {
 }
 
 impl Layout {
-    const NONE: Layout = Layout { base: Base::Either, count: 0, first: 0, second: 0, end: 0, distance: 0 };
+    const NONE: Layout = Layout {
+        base: Base::Either,
+        count: 0,
+        frame_pointer: Restored::Unknown,
+        first: 0,
+        second: 0,
+        end: 0,
+        distance: 0,
+    };
 
     /// The words that the step with these registers asks for, or none where it may be refused, or end the walk, without
     /// asking for them.
     #[inline(always)]
-    pub fn words(&self, regs: &impl FrameWords) -> raw::Ahead {
-        let (sp, fp) = (regs.stack_pointer(), regs.frame_pointer());
-        let is_by_frame_pointer = self.base == Base::FramePointer;
-        let base = if is_by_frame_pointer { fp } else { sp };
+    pub fn words(&self, of: Pointers) -> raw::Ahead {
+        let (sp, fp) = (of.stack, of.frame);
+        let base = self.base_at(of);
         let at = |offset: i32| base.wrapping_add(offset as u64);
         // no sum wraps
         let is_inside = base.wrapping_sub(FARTHEST) < u64::MAX - 2 * FARTHEST;
@@ -57,17 +86,42 @@ impl Layout {
         raw::Ahead { first: at(self.first), second: at(self.second), count: self.count.into(), lookup: raw::NO_LOOKUP }
     }
 
+    #[inline(always)]
+    fn base_at(&self, of: Pointers) -> u64 {
+        let is_by_frame_pointer = self.base == Base::FramePointer;
+        if is_by_frame_pointer { of.frame } else { of.stack }
+    }
+
+    /// The caller's pointers, by the first and the last word that the step asks for.
+    #[inline(always)]
+    pub fn caller(&self, of: Pointers, [first, second]: [u64; 2]) -> Option<Pointers> {
+        let frame = match self.frame_pointer {
+            Restored::Unknown => return None,
+            Restored::Kept => of.frame,
+            Restored::First => first,
+            Restored::Second => second,
+        };
+        Some(Pointers { stack: self.base_at(of).wrapping_add(self.end as u64), frame })
+    }
+
+    /// Whether the caller's frame pointer is one of the words.
+    #[inline(always)]
+    pub fn restores_frame_pointer(&self) -> bool {
+        self.frame_pointer != Restored::Kept
+    }
+
     /// What this layout and that of a later step tell together, if they agree.
     fn with(&self, later: &Layout) -> Option<Layout> {
         if self.count != later.count {
             return None;
         }
-        let by_stack_pointer = Layout { base: Base::StackPointer, ..*self };
+        let frame_pointer = self.frame_pointer.with(later.frame_pointer)?;
+        let earlier = Layout { frame_pointer, ..*self };
         let told = match self.base {
-            Base::StackPointer | Base::FramePointer => *self,
-            Base::Either if later.base == Base::Either && later.distance == self.distance => *self,
-            Base::Either if self.offsets() == later.offsets() => by_stack_pointer,
-            Base::Either => self.by_frame_pointer()?,
+            Base::StackPointer | Base::FramePointer => earlier,
+            Base::Either if later.base == Base::Either && later.distance == self.distance => earlier,
+            Base::Either if self.offsets() == later.offsets() => Layout { base: Base::StackPointer, ..earlier },
+            Base::Either => earlier.by_frame_pointer()?,
         };
         let later = if told.base == Base::FramePointer { later.by_frame_pointer()? } else { *later };
         (told.offsets() == later.offsets()).then_some(told)
@@ -88,43 +142,72 @@ impl Layout {
     }
 }
 
-/// The words (AVMAs) that a step has asked for, in their order, as far as they are no more than two.
+impl Restored {
+    /// What this and a later step tell together, if they agree.
+    fn with(self, later: Restored) -> Option<Restored> {
+        match (self, later) {
+            (Restored::Unknown, told) | (told, Restored::Unknown) => Some(told),
+            _ => (self == later).then_some(self),
+        }
+    }
+}
+
+/// The words that a step has asked for, by their addresses (AVMAs) in their order, as far as they are no more than two.
 pub(crate) struct Asked {
+    addresses: [u64; 2],
+    /// 0 for a word that can't be read.
     words: [u64; 2],
     count: usize,
 }
 
 impl Asked {
     /// Those that were known before the step.
-    pub fn new(ahead: &raw::Ahead) -> Self {
-        Asked { words: [ahead.first, ahead.second], count: ahead.count as usize }
+    pub fn new(ahead: &raw::Ahead, known: &Known) -> Self {
+        Asked {
+            addresses: [ahead.first, ahead.second],
+            words: known.ends().unwrap_or_default(),
+            count: ahead.count as usize,
+        }
     }
 
-    pub fn push(&mut self, address: u64) {
-        if let Some(place) = self.words.get_mut(self.count) {
-            *place = address;
+    pub fn push(&mut self, address: u64, word: Option<u64>) {
+        if self.count < 2 {
+            self.addresses[self.count] = address;
+            self.words[self.count] = word.unwrap_or(0);
         }
         self.count += 1;
     }
 
-    /// The layout of the words, by the pointers of the step's frame and the caller's stack pointer (AVMAs), if there are
-    /// one or two.
-    pub fn layout(&self, stack_pointer: u64, frame_pointer: u64, caller_stack_pointer: u64) -> Option<Layout> {
-        let (first, second) = match self.count {
-            1 => (self.words[0], self.words[0]),
-            2 => (self.words[0], self.words[1]),
+    /// The layout of the words, by the pointers (AVMAs) of the step's frame and of its caller, if there are one or two.
+    pub fn layout(&self, of: Pointers, caller: Pointers) -> Option<Layout> {
+        let [first, second] = match self.count {
+            1 => [self.addresses[0]; 2],
+            2 => self.addresses,
             _ => return None,
         };
         let offset = |address: u64, limit: u64| {
-            let offset = address.wrapping_sub(stack_pointer) as i64;
+            let offset = address.wrapping_sub(of.stack) as i64;
             (offset.unsigned_abs() < limit).then_some(offset as i32)
         };
         let near = |address: u64| offset(address, FARTHEST / 4);
-        let (first, second, end) = (near(first)?, near(second)?, near(caller_stack_pointer)?);
+        let (first, second, end) = (near(first)?, near(second)?, near(caller.stack)?);
         // no rule has such words so far from the frame pointer
-        let by_either = offset(frame_pointer, FARTHEST / 2).map(|distance| (Base::Either, distance));
+        let by_either = offset(of.frame, FARTHEST / 2).map(|distance| (Base::Either, distance));
         let (base, distance) = by_either.unwrap_or((Base::StackPointer, 0));
-        Some(Layout { base, count: self.count as u8, first, second, end, distance })
+        let frame_pointer = self.restored(of.frame, caller.frame);
+        Some(Layout { base, count: self.count as u8, frame_pointer, first, second, end, distance })
+    }
+
+    /// Where the caller's frame pointer comes from, if only one place has it.
+    fn restored(&self, frame_pointer: u64, caller_frame_pointer: u64) -> Restored {
+        let is_from = |from: u64| from == caller_frame_pointer;
+        let is_word = |at: usize| at < self.count && is_from(self.words[at]);
+        match (is_from(frame_pointer), is_word(0), is_word(1)) {
+            (true, false, false) => Restored::Kept,
+            (false, true, false) => Restored::First,
+            (false, false, true) => Restored::Second,
+            _ => Restored::Unknown,
+        }
     }
 }
 
@@ -147,14 +230,14 @@ impl Entry {
 
 /// The layouts of the frames that were unwound with a cache, by their return addresses: of those that share a set the two
 /// that were noted last.
-pub(crate) struct Layouts(Vec<[Entry; 2]>);
+pub(crate) struct Layouts(Box<[[Entry; 2]; SETS]>);
 
 impl Layouts {
     pub fn new() -> Result<Self, ModuleListError> {
         let mut sets = Vec::new();
         sets.try_reserve_exact(SETS).map_err(|_| ModuleListError::OutOfMemory)?;
         sets.resize(SETS, [Entry::NONE; 2]);
-        Ok(Layouts(sets))
+        Ok(Layouts(sets.try_into().unwrap_or_else(|_| unreachable!("so many sets were made"))))
     }
 
     /// The number of an address's set: neighbours are far apart.

@@ -115,6 +115,7 @@ use std::rc::Rc;
 
 pub mod aarch64;
 mod fallible;
+mod iterator;
 mod layouts;
 mod module;
 mod raw;
@@ -123,9 +124,10 @@ mod words;
 pub mod x86_64;
 
 pub use fallible::{FallibleIterator, Results};
+pub use iterator::UnwindIterator;
 pub use module::{ExplicitModuleSectionInfo, Module, ModuleSectionInfo};
 pub use raw::CacheStats;
-pub use unwinder::{UnwindIterator, Unwinder};
+pub use unwinder::Unwinder;
 
 /// The cache of the architecture that this crate is compiled for.
 #[cfg(target_arch = "aarch64")]

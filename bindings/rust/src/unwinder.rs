@@ -1,7 +1,10 @@
-//! What unwinders of all architectures have, and the iterator over the frames of a stack.
-use crate::layouts::{Asked, Layouts};
-use crate::words::{Chunks, Known, Words};
+//! What unwinders of all architectures have.
+use crate::iterator::{Run, UnwindIterator};
+use crate::layouts::{Layouts, Pointers};
+use crate::words::{Chunks, Known, RunWords, Words};
 use crate::{CacheStats, Error, FrameAddress, ModuleListError, raw};
+use std::cell::Cell;
+use std::num::NonZeroU64;
 
 /// An unwinder for one architecture: the modules of one process, and unwinding by them.
 pub trait Unwinder: Clone {
@@ -44,24 +47,33 @@ pub trait Unwinder: Clone {
     where
         F: FnMut(u64) -> Result<u64, ()>;
 
-    /// Unwinds a single frame for an iterator, which keeps what is known ahead of the next one.
+    /// Finds the next frames from one on for an iterator. The registers become those of the last one.
     #[doc(hidden)]
-    fn next_frame<F>(
+    fn find_run<F>(
         &self,
-        address: FrameAddress,
+        from: FrameAddress,
         regs: &mut Self::UnwindRegs,
         cache: &mut Self::Cache,
-        ahead: &mut Ahead,
+        run: &mut Run<Self::UnwindRegs>,
         read_stack: &mut F,
-    ) -> Result<Option<u64>, Error>
-    where
+    ) where
         F: FnMut(u64) -> Result<u64, ()>,
     {
-        *ahead = Ahead::default();
-        self.unwind_frame(address, regs, cache, read_stack)
+        run.add(self.unwind_frame(from, regs, cache, read_stack));
+    }
+
+    /// Returns the registers of the frame of a run that was handed out last, where others follow it.
+    #[doc(hidden)]
+    fn regs_in_run(&self, _cache: &Self::Cache, _run: &Run<Self::UnwindRegs>) -> Self::UnwindRegs {
+        unreachable!("a run of one frame ends with that frame")
     }
 
     /// Returns an iterator over the frames of a stack, from an instruction pointer (AVMA) and its registers on.
+    ///
+    /// It finds frames ahead, in runs of 1, 2, 4, 8 and then 16, and hands them out one by one. Who goes on to the end sees
+    /// what single steps show: frames, errors, registers, the words that the callback is asked for in their order, and the
+    /// cache's counts. Who stops earlier may find that the callback was asked for the words of at most 15 frames more, and
+    /// the lookups of these are counted. [`Unwinder::iter_frames_lazily`] asks for nothing ahead.
     fn iter_frames<'u, 'c, 'r, F>(
         &'u self,
         pc: u64,
@@ -74,71 +86,40 @@ pub trait Unwinder: Clone {
     {
         UnwindIterator::new(self, pc, regs, cache, read_stack)
     }
-}
 
-/// The words that the step from a frame will ask for, as the archive has told with that frame, and how its rule was looked up;
-/// or as an earlier step from there has shown, without a lookup.
-#[doc(hidden)]
-#[derive(Clone, Copy, Default)]
-pub struct Ahead(raw::Ahead);
-
-enum State {
-    Initial(u64),
-    Unwinding(FrameAddress),
-    Done,
-}
-
-/// An iterator over the frames of a stack: the instruction pointer, then return addresses, and `Ok(None)` from the
-/// root on. After an error it is still at the same frame, which the next call tries anew.
-pub struct UnwindIterator<'u, 'c, 'r, U: Unwinder, F: FnMut(u64) -> Result<u64, ()>> {
-    unwinder: &'u U,
-    state: State,
-    regs: U::UnwindRegs,
-    ahead: Ahead,
-    cache: &'c mut U::Cache,
-    read_stack: &'r mut F,
-}
-
-impl<'u, 'c, 'r, U: Unwinder, F: FnMut(u64) -> Result<u64, ()>> UnwindIterator<'u, 'c, 'r, U, F> {
-    /// Returns what [`Unwinder::iter_frames`] returns.
-    pub fn new(unwinder: &'u U, pc: u64, regs: U::UnwindRegs, cache: &'c mut U::Cache, read_stack: &'r mut F) -> Self {
-        UnwindIterator { unwinder, state: State::Initial(pc), regs, ahead: Ahead::default(), cache, read_stack }
-    }
-
-    /// Returns the next frame: first the instruction pointer, then return addresses.
-    #[allow(clippy::should_implement_trait)]
-    pub fn next(&mut self) -> Result<Option<FrameAddress>, Error> {
-        let frame = match self.state {
-            State::Initial(pc) => FrameAddress::from_instruction_pointer(pc),
-            State::Unwinding(address) => {
-                let (regs, ahead) = (&mut self.regs, &mut self.ahead);
-                match self.unwinder.next_frame(address, regs, self.cache, ahead, self.read_stack)? {
-                    Some(found) => FrameAddress::from_return_address(found).ok_or(Error::ReturnAddressIsNull)?,
-                    None => {
-                        self.state = State::Done;
-                        return Ok(None);
-                    }
-                }
-            }
-            State::Done => return Ok(None),
-        };
-        self.state = State::Unwinding(frame);
-        Ok(Some(frame))
-    }
-
-    /// Returns the registers of the frame at which the iterator is.
-    pub fn regs(&self) -> &U::UnwindRegs {
-        &self.regs
+    /// Returns an iterator as [`Unwinder::iter_frames`] does, which finds each frame when it is asked for that frame: where
+    /// it is left, the callback was asked for no word of a further one. It takes about twice as long.
+    fn iter_frames_lazily<'u, 'c, 'r, F>(
+        &'u self,
+        pc: u64,
+        regs: Self::UnwindRegs,
+        cache: &'c mut Self::Cache,
+        read_stack: &'r mut F,
+    ) -> UnwindIterator<'u, 'c, 'r, Self, F>
+    where
+        F: FnMut(u64) -> Result<u64, ()>,
+    {
+        UnwindIterator::new(self, pc, regs, cache, read_stack).lazily()
     }
 }
 
-/// One try of a step by the archive, over windows, and of one that tells the words ahead; and the counts of its cache.
+/// One try of a step from a frame by the archive, over windows, of one that tells the words ahead, and of a walk into a list;
+/// and the counts of its cache.
 pub(crate) trait Step<R> {
-    fn step(&mut self, regs: &mut R, windows: &[raw::Window], told: &mut raw::Step) -> i32;
+    fn step(&self, from: FrameAddress, regs: &mut R, windows: &[raw::Window], told: &mut raw::Step) -> i32;
 
-    fn next(&mut self, regs: &mut R, windows: &[raw::Window], told: &mut raw::Next) -> i32;
+    fn next(&self, from: FrameAddress, regs: &mut R, windows: &[raw::Window], told: &mut raw::Next) -> i32;
 
-    fn counts(&mut self) -> CacheStats;
+    fn walk(
+        &self,
+        from: FrameAddress,
+        regs: &mut R,
+        windows: &[raw::Window],
+        frames: &mut [u64],
+        told: &mut raw::Walk,
+    ) -> i32;
+
+    fn counts(&self) -> CacheStats;
 }
 
 /// A frame of an iterator.
@@ -152,44 +133,47 @@ pub(crate) struct Frame {
 /// What a cache keeps beside the archive's.
 pub(crate) struct Kept {
     pub tries: Tries,
-    layouts: Layouts,
+    pub layouts: Layouts,
+    /// The words of the last run.
+    pub run_words: RunWords,
+    /// The lookups by which registers in a run were found again.
+    pub shown_again: Cell<CacheStats>,
 }
 
 /// The words of the steps that are tried again for a missing one, and the lookups that the archive has counted for tries.
 pub(crate) struct Tries {
-    words: Words,
-    recounted: CacheStats,
+    pub words: Words,
+    pub recounted: CacheStats,
 }
 
 impl Kept {
     pub fn new(may_allocate: bool) -> Result<Self, ModuleListError> {
         let tries = Tries { words: Words::new(may_allocate)?, recounted: CacheStats::default() };
-        Ok(Kept { tries, layouts: Layouts::new()? })
+        Ok(Kept { tries, layouts: Layouts::new()?, run_words: RunWords::new(), shown_again: Cell::default() })
     }
 
     /// The counts of the archive's cache without those of lookups that were only made again.
     pub fn counted(&self, counts: &CacheStats) -> CacheStats {
-        counts.minus(&self.tries.recounted)
+        counts.minus(&self.tries.recounted).minus(&self.shown_again.get())
     }
 }
 
-/// Steps until no word is missing, with the words that are known. A step that asks for a word of which no window tells has
-/// gone on without it, so its answer may be another than that with the word: the registers are put back, and the step is
-/// made again.
+/// Steps from a frame until no word is missing. A step that asks for a word of which no window tells has gone on without it,
+/// so its answer may be another than that with the word: the registers are put back, and the step is made again.
 #[inline(always)]
 pub(crate) fn step_with<R: Copy>(
-    step: &mut impl Step<R>,
+    step: &impl Step<R>,
+    from: FrameAddress,
     regs: &mut R,
     tries: &mut Tries,
-    known: &Known,
     read_stack: &mut impl FnMut(u64) -> Result<u64, ()>,
 ) -> Result<Option<u64>, Error> {
     let before = *regs;
     let mut told = raw::Step::default();
-    let mut status = known.lend(|windows| step.step(regs, windows, &mut told));
+    let mut status = step.step(from, regs, &[], &mut told);
     if told.has_missing {
         *regs = before;
-        status = step_over(step, regs, tries, known, &mut told, read_stack)?;
+        status = step_over(step, from, regs, tries, &mut told, read_stack)?;
     }
     match status {
         raw::OK => Ok(Some(told.return_address)),
@@ -202,20 +186,20 @@ pub(crate) fn step_with<R: Copy>(
 /// `recounted`.
 #[cold]
 fn step_over<R: Copy>(
-    step: &mut impl Step<R>,
+    step: &impl Step<R>,
+    from: FrameAddress,
     regs: &mut R,
     tries: &mut Tries,
-    known: &Known,
     told: &mut raw::Step,
     read_stack: &mut impl FnMut(u64) -> Result<u64, ()>,
 ) -> Result<i32, Error> {
     let Tries { words, recounted } = tries;
     let before = *regs;
     let mut old = step.counts();
-    words.set(known)?;
+    words.set(&Known::NONE)?;
     loop {
         words.push(told.missing, read_stack(told.missing).ok())?;
-        let status = step.step(regs, words.windows(), told);
+        let status = step.step(from, regs, words.windows(), told);
         let new = step.counts();
         *recounted = recounted.plus(&new.minus(&old));
         old = new;
@@ -226,106 +210,12 @@ fn step_over<R: Copy>(
     }
 }
 
-/// Steps for an iterator from a frame. The words that are known ahead are read first, and mostly there are no others. Where
-/// it is known from an earlier step which words the step from the caller will ask for, the archive is not asked to find them.
-#[inline(always)]
-pub(crate) fn next_with<R: FrameWords>(
-    step: &mut impl Step<R>,
-    frame: Frame,
-    regs: &mut R,
-    kept: &mut Kept,
-    ahead: &mut Ahead,
-    read_stack: &mut impl FnMut(u64) -> Result<u64, ()>,
-) -> Result<Option<u64>, Error> {
-    let Ahead(before) = std::mem::take(ahead);
-    let known = Known::read(&before, read_stack);
-    // with a rule the first lookup of a frame is a hit, and so is each further one
-    if before.count > 0 && matches!(before.lookup, raw::NO_LOOKUP | raw::LOOKUP_HIT) {
-        let caller = regs.return_address(known.ends());
-        if let Some(layout) = kept.layouts.find(caller, frame.modules) {
-            let found = step_with(step, regs, &mut kept.tries, &known, read_stack)?;
-            if found == Some(caller) {
-                *ahead = Ahead(layout.words(regs));
-            }
-            return Ok(found);
-        }
-    }
-    *ahead = Ahead(before);
-    next_told(step, frame, regs, kept, &known, ahead, read_stack)
-}
-
-/// Steps for an iterator by a call that also tells the words of the caller. What the cache counts beside the one lookup that
-/// a step is, is added to `recounted`.
-#[inline(never)]
-fn next_told<R: FrameWords>(
-    step: &mut impl Step<R>,
-    frame: Frame,
-    regs: &mut R,
-    kept: &mut Kept,
-    known: &Known,
-    ahead: &mut Ahead,
-    read_stack: &mut impl FnMut(u64) -> Result<u64, ()>,
-) -> Result<Option<u64>, Error> {
-    let Ahead(before) = std::mem::take(ahead);
-    let (stack_pointer, frame_pointer) = (regs.stack_pointer(), regs.frame_pointer());
-    let mut asked = Asked::new(&before);
-    let mut told = raw::Next::default();
-    let mut status = known.lend(|windows| step.next(regs, windows, &mut told));
-    let is_by_rule = told.lookup == raw::LOOKUP_HIT && frame.address.is_return_address();
-    if before.lookup != raw::NO_LOOKUP && before.lookup != told.lookup {
-        // the lookup that counts is the one by which the words were told
-        kept.tries.recounted.take(before.lookup);
-        kept.tries.recounted.add(told.lookup);
-    }
-    if status == raw::MISSING_WORD {
-        status = next_over(step, regs, &mut kept.tries, known, &mut told, &mut asked, read_stack)?;
-    }
-    match status {
-        raw::OK => {
-            kept.tries.recounted.add(told.ahead.lookup);
-            if told.ahead.lookup == raw::LOOKUP_HIT && told.ahead.count > 0 {
-                kept.tries.recounted.add(raw::LOOKUP_HIT);
-            }
-            *ahead = Ahead(told.ahead);
-            if is_by_rule {
-                let layout = asked.layout(stack_pointer, frame_pointer, regs.stack_pointer());
-                kept.layouts.note(frame.address.address(), frame.modules, layout);
-            }
-            Ok(Some(told.return_address))
-        }
-        raw::END => Ok(None),
-        _ => Err(Error::of_status(status, told.unreadable)),
-    }
-}
-
-/// Steps until no word is missing, with the words that are known: the first step of a walk was told none.
-#[cold]
-fn next_over<R>(
-    step: &mut impl Step<R>,
-    regs: &mut R,
-    tries: &mut Tries,
-    known: &Known,
-    told: &mut raw::Next,
-    asked: &mut Asked,
-    read_stack: &mut impl FnMut(u64) -> Result<u64, ()>,
-) -> Result<i32, Error> {
-    tries.words.set(known)?;
-    loop {
-        asked.push(told.unreadable);
-        tries.words.push(told.unreadable, read_stack(told.unreadable).ok())?;
-        let status = step.next(regs, tries.words.windows(), told);
-        tries.recounted.add(told.lookup);
-        if status != raw::MISSING_WORD {
-            return Ok(status);
-        }
-    }
-}
-
 /// Registers by which it is known where a frame's words are.
-pub(crate) trait FrameWords: Copy {
-    fn stack_pointer(&self) -> u64;
+pub trait FrameWords: Copy {
+    fn pointers(&self) -> Pointers;
 
-    fn frame_pointer(&self) -> u64;
+    /// Returns whether a step that restores the frame pointer can't be refused, nor end the walk, for what it was and becomes.
+    fn leads_on(frame_pointer: u64, caller_frame_pointer: u64) -> bool;
 
     /// Returns the return address (AVMA) that is read by a rule which asks for these words first and last.
     fn return_address(&self, words: [u64; 2]) -> u64;
@@ -334,10 +224,9 @@ pub(crate) trait FrameWords: Copy {
     fn words_from(&self, missing: u64) -> u64;
 }
 
-/// Walks on from an instruction pointer (AVMA) until no word is missing: `walk_on` writes the return addresses of the
-/// frames that called a frame, over windows. The words of frames that are unwound are let go.
+/// Walks on from an instruction pointer (AVMA) until no word is missing. The words of frames that are unwound are let go.
 pub(crate) fn walk_with<R: FrameWords>(
-    mut walk_on: impl FnMut(u64, bool, &mut R, &[raw::Window], &mut [u64], &mut raw::Walk) -> i32,
+    step: &impl Step<R>,
     pc: u64,
     regs: &mut R,
     read_words: &mut impl FnMut(u64, &mut [u64]) -> usize,
@@ -350,7 +239,11 @@ pub(crate) fn walk_with<R: FrameWords>(
     let mut count = 1;
     loop {
         let (found, rest) = frames.split_at_mut(count);
-        let status = walk_on(found[count - 1], count > 1, regs, chunks.windows(), rest, &mut told);
+        let from = match NonZeroU64::new(found[count - 1]) {
+            Some(address) if count > 1 => FrameAddress::ReturnAddress(address),
+            _ => FrameAddress::from_instruction_pointer(pc),
+        };
+        let status = step.walk(from, regs, chunks.windows(), rest, &mut told);
         if told.frame_count > 0 {
             chunks.clear();
         }
@@ -439,24 +332,23 @@ macro_rules! unwinder {
             stats
         }
 
-        /// A step from an address, by an unwinder and a cache of one policy.
-        struct StepFrom<'a> {
+        /// An unwinder and a cache of one policy.
+        struct Pair<'a> {
             unwinder: &'a Owned,
             cache: &'a Owned,
-            address: FrameAddress,
         }
 
-        impl Step<$regs> for StepFrom<'_> {
+        impl Step<$regs> for Pair<'_> {
             #[inline]
-            fn step(&mut self, regs: &mut $regs, windows: &[raw::Window], told: &mut raw::Step) -> i32 {
+            fn step(&self, from: FrameAddress, regs: &mut $regs, windows: &[raw::Window], told: &mut raw::Step) -> i32 {
                 // SAFETY: an unwinder and a cache of one policy, and windows that are lent for the call. The callback
                 // is not called meanwhile.
                 unsafe {
                     raw::$unwind_frame(
                         &mut self.unwinder.handle(),
                         &mut self.cache.handle(),
-                        self.address.address(),
-                        self.address.is_return_address(),
+                        from.address(),
+                        from.is_return_address(),
                         &mut regs.0,
                         windows.as_ptr(),
                         windows.len(),
@@ -465,14 +357,14 @@ macro_rules! unwinder {
                 }
             }
 
-            fn next(&mut self, regs: &mut $regs, windows: &[raw::Window], told: &mut raw::Next) -> i32 {
+            fn next(&self, from: FrameAddress, regs: &mut $regs, windows: &[raw::Window], told: &mut raw::Next) -> i32 {
                 // SAFETY: as above
                 unsafe {
                     raw::$next_frame(
                         &mut self.unwinder.handle(),
                         &mut self.cache.handle(),
-                        self.address.address(),
-                        self.address.is_return_address(),
+                        from.address(),
+                        from.is_return_address(),
                         &mut regs.0,
                         windows.as_ptr(),
                         windows.len(),
@@ -481,7 +373,33 @@ macro_rules! unwinder {
                 }
             }
 
-            fn counts(&mut self) -> CacheStats {
+            #[inline]
+            fn walk(
+                &self,
+                from: FrameAddress,
+                regs: &mut $regs,
+                windows: &[raw::Window],
+                frames: &mut [u64],
+                told: &mut raw::Walk,
+            ) -> i32 {
+                // SAFETY: as above, and a list that is lent for the call
+                unsafe {
+                    raw::$walk_on(
+                        &mut self.unwinder.handle(),
+                        &mut self.cache.handle(),
+                        from.address(),
+                        from.is_return_address(),
+                        &mut regs.0,
+                        windows.as_ptr(),
+                        windows.len(),
+                        frames.as_mut_ptr(),
+                        frames.len(),
+                        told,
+                    )
+                }
+            }
+
+            fn counts(&self) -> CacheStats {
                 counts(self.cache)
             }
         }
@@ -598,29 +516,8 @@ macro_rules! unwinder {
                 mut read_words: impl FnMut(u64, &mut [u64]) -> usize,
                 frames: &mut [u64],
             ) -> (usize, Result<bool, Error>) {
-                let walk_on = |address,
-                               is_return_address,
-                               regs: &mut $regs,
-                               windows: &[raw::Window],
-                               frames: &mut [u64],
-                               told: &mut _| {
-                    // SAFETY: an unwinder and a cache of one policy, and windows and a list that are lent for the call
-                    unsafe {
-                        raw::$walk_on(
-                            &mut self.unwinder.handle(),
-                            &mut cache.cache.handle(),
-                            address,
-                            is_return_address,
-                            &mut regs.0,
-                            windows.as_ptr(),
-                            windows.len(),
-                            frames.as_mut_ptr(),
-                            frames.len(),
-                            told,
-                        )
-                    }
-                };
-                walk_with(walk_on, pc, regs, &mut read_words, frames)
+                let pair = Pair { unwinder: &self.unwinder, cache: &cache.cache };
+                walk_with(&pair, pc, regs, &mut read_words, frames)
             }
         }
 
@@ -693,22 +590,25 @@ macro_rules! unwinder {
                 read_stack: &mut F,
             ) -> Result<Option<u64>, Error> {
                 let $cache { cache, kept, .. } = cache;
-                let mut step = StepFrom { unwinder: &self.unwinder, cache, address };
-                step_with(&mut step, regs, &mut kept.tries, &Known::NONE, read_stack)
+                let pair = Pair { unwinder: &self.unwinder, cache };
+                step_with(&pair, address, regs, &mut kept.tries, read_stack)
             }
 
-            fn next_frame<F: FnMut(u64) -> Result<u64, ()>>(
+            fn find_run<F: FnMut(u64) -> Result<u64, ()>>(
                 &self,
-                address: FrameAddress,
+                from: FrameAddress,
                 regs: &mut $regs,
                 cache: &mut $cache<P>,
-                ahead: &mut Ahead,
+                run: &mut Run<$regs>,
                 read_stack: &mut F,
-            ) -> Result<Option<u64>, Error> {
+            ) {
                 let $cache { cache, kept, .. } = cache;
-                let frame = Frame { address, modules: self.list };
-                let mut step = StepFrom { unwinder: &self.unwinder, cache, address };
-                next_with(&mut step, frame, regs, kept, ahead, read_stack)
+                let pair = Pair { unwinder: &self.unwinder, cache };
+                run.find(&pair, Frame { address: from, modules: self.list }, regs, kept, read_stack);
+            }
+
+            fn regs_in_run(&self, cache: &$cache<P>, run: &Run<$regs>) -> $regs {
+                run.regs_again(&Pair { unwinder: &self.unwinder, cache: &cache.cache }, &cache.kept)
             }
         }
     };

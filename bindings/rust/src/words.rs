@@ -1,4 +1,5 @@
 //! The stack words that a callback has read for a step.
+use crate::iterator::LONGEST;
 use crate::{Error, ModuleListError, raw};
 
 /// How many words a step may ask for where unwinding may not take memory. A function of a PE file can ask for 257: its
@@ -65,32 +66,30 @@ pub(crate) struct Known {
     /// The windows by their addresses and their counts of words: a window without words is a word that can't be read.
     windows: [(u64, usize); 2],
     count: usize,
-    /// The first and the last word that were asked for, 0 where one can't be read.
-    ends: [u64; 2],
+    /// The first and the last word that were asked for, if each could be read.
+    ends: Option<[u64; 2]>,
 }
 
 impl Known {
     /// No word is known.
-    pub const NONE: Known = Known { words: [0; 2], windows: [(0, 0); 2], count: 0, ends: [0; 2] };
+    pub const NONE: Known = Known { words: [0; 2], windows: [(0, 0); 2], count: 0, ends: None };
 
     /// Reads the words that are told, the second one only where the first one can be read.
     #[inline(always)]
     pub fn read(ahead: &raw::Ahead, read_stack: &mut impl FnMut(u64) -> Result<u64, ()>) -> Self {
+        match read_told(ahead, read_stack) {
+            Ok([one, other]) => Known::of(ahead, one, other),
+            Err(read) => Known::up_to(ahead, read),
+        }
+    }
+
+    /// The words that are told, where each could be read.
+    pub fn of(ahead: &raw::Ahead, one: u64, other: u64) -> Self {
         let raw::Ahead { first, second, .. } = *ahead;
-        if ahead.count == 0 {
-            return Known::NONE;
-        }
-        let Ok(one) = read_stack(first) else {
-            return Known { words: [0; 2], windows: [(first, 0), (0, 0)], count: 1, ends: [0; 2] };
-        };
+        let ends = Some([one, other]);
         if ahead.count == 1 {
-            return Known { words: [one, 0], windows: [(first, 1), (0, 0)], count: 1, ends: [one, one] };
-        }
-        let Ok(other) = read_stack(second) else {
-            return Known { words: [one, 0], windows: [(first, 1), (second, 0)], count: 2, ends: [one, 0] };
-        };
-        let ends = [one, other];
-        if second.wrapping_sub(first) == 8 && first < second {
+            Known { words: [one, 0], windows: [(first, 1), (0, 0)], count: 1, ends }
+        } else if second.wrapping_sub(first) == 8 && first < second {
             Known { words: [one, other], windows: [(first, 2), (0, 0)], count: 1, ends }
         } else if first.wrapping_sub(second) == 8 && second < first {
             Known { words: [other, one], windows: [(second, 2), (0, 0)], count: 1, ends }
@@ -99,9 +98,19 @@ impl Known {
         }
     }
 
-    /// The first and the last word that were asked for, 0 where one can't be read.
+    /// The words that are told up to one that can't be read, the first one or the second: what was read before it.
+    pub fn up_to(ahead: &raw::Ahead, read: Option<u64>) -> Self {
+        let raw::Ahead { first, second, .. } = *ahead;
+        match read {
+            _ if ahead.count == 0 => Known::NONE,
+            None => Known { words: [0; 2], windows: [(first, 0), (0, 0)], count: 1, ends: None },
+            Some(one) => Known { words: [one, 0], windows: [(first, 1), (second, 0)], count: 2, ends: None },
+        }
+    }
+
+    /// The first and the last word that were asked for, if there is one and each could be read.
     #[inline]
-    pub fn ends(&self) -> [u64; 2] {
+    pub fn ends(&self) -> Option<[u64; 2]> {
         self.ends
     }
 
@@ -130,6 +139,23 @@ impl Known {
             _ => call(&[window(0, 0), window(1, self.windows[0].1)]),
         }
     }
+}
+
+/// Reads the words that are told, one or two: the first and the last one, or what was read before one that can't be read.
+#[inline(always)]
+pub(crate) fn read_told(
+    told: &raw::Ahead,
+    read_stack: &mut impl FnMut(u64) -> Result<u64, ()>,
+) -> Result<[u64; 2], Option<u64>> {
+    if told.count == 0 {
+        return Err(None);
+    }
+    let one = read_stack(told.first).map_err(|()| None)?;
+    if told.count == 1 {
+        return Ok([one, one]);
+    }
+    let other = read_stack(told.second).map_err(|()| Some(one))?;
+    Ok([one, other])
 }
 
 /// How often a frame may ask for words.
@@ -191,5 +217,60 @@ impl Chunks {
             rest = others;
         }
         &self.windows[..self.window_count]
+    }
+}
+
+/// The words of the frames of a run from lower addresses upwards, in windows of one word or of two that lie side by side.
+#[derive(Clone)]
+pub(crate) struct RunWords {
+    windows: [raw::Window; RunWords::MOST],
+    words: [[u64; 2]; RunWords::MOST],
+    count: usize,
+}
+
+impl RunWords {
+    /// How many windows there may be: two a frame.
+    const MOST: usize = 2 * LONGEST;
+
+    pub fn new() -> Self {
+        let none = raw::Window { base: 0, words: std::ptr::null(), word_count: 0 };
+        RunWords { windows: [none; Self::MOST], words: [[0; 2]; Self::MOST], count: 0 }
+    }
+
+    pub fn clear(&mut self) {
+        self.count = 0;
+    }
+
+    /// Adds the words of a frame, by what was told of them and read. There must be room.
+    #[inline(always)]
+    pub fn push(&mut self, told: &raw::Ahead, [one, other]: [u64; 2]) {
+        let raw::Ahead { first, second, count, .. } = *told;
+        if count == 1 {
+            self.add(first, [one, 0], 1);
+        } else if second.wrapping_sub(first) == 8 {
+            self.add(first, [one, other], 2);
+        } else if first.wrapping_sub(second) == 8 {
+            self.add(second, [other, one], 2);
+        } else {
+            let [low, high] =
+                if second < first { [(second, other), (first, one)] } else { [(first, one), (second, other)] };
+            self.add(low.0, [low.1, 0], 1);
+            self.add(high.0, [high.1, 0], 1);
+        }
+    }
+
+    #[inline(always)]
+    fn add(&mut self, base: u64, words: [u64; 2], word_count: usize) {
+        self.words[self.count] = words;
+        self.windows[self.count] = raw::Window { base, words: std::ptr::null(), word_count };
+        self.count += 1;
+    }
+
+    /// The windows, which lend the words until more are added.
+    pub fn windows(&mut self) -> &[raw::Window] {
+        for (window, words) in self.windows[..self.count].iter_mut().zip(&self.words) {
+            window.words = words.as_ptr();
+        }
+        &self.windows[..self.count]
     }
 }

@@ -1,8 +1,7 @@
 //! Unwinding on x86_64.
-use crate::unwinder::{
-    Ahead, Frame, FrameWords, Kept, Step, Unwinder, end_of, next_with, step_with, unwinder, walk_with,
-};
-use crate::words::Known;
+use crate::iterator::Run;
+use crate::layouts::Pointers;
+use crate::unwinder::{Frame, FrameWords, Kept, Step, Unwinder, end_of, step_with, unwinder, walk_with};
 use crate::{
     AllocationPolicy, CacheStats, Error, FrameAddress, Generations, MayAllocateDuringUnwind, Module, ModuleListError,
     Owned, raw,
@@ -78,12 +77,15 @@ impl UnwindRegsX86_64 {
 }
 
 impl FrameWords for UnwindRegsX86_64 {
-    fn stack_pointer(&self) -> u64 {
-        self.sp()
+    #[inline]
+    fn pointers(&self) -> Pointers {
+        Pointers { stack: self.sp(), frame: self.bp() }
     }
 
-    fn frame_pointer(&self) -> u64 {
-        self.bp()
+    #[inline]
+    /// The caller's frame pointer may be anything.
+    fn leads_on(_frame_pointer: u64, _caller_frame_pointer: u64) -> bool {
+        true
     }
 
     /// Each rule reads it last.

@@ -330,6 +330,23 @@ fn expression_at(start: u64) -> Module<Vec<u8>> {
     Module::new("m".into(), start..start + 0x100, start, info)
 }
 
+/// A module of 256 bytes with a function for aarch64, whose CFA is this many bytes above sp. In its stack are lr, so many words
+/// below the CFA, and fp, if a place is given for it.
+fn saves_at(start: u64, size: u64, lr: u64, fp: Option<u64>) -> Module<Vec<u8>> {
+    // version 1, factors 1 and -8, the return address in column 30, and sp as the CFA
+    let cie = [&[0xff; 4], &[1, 0, 1, 0x78, 30, 0x0c, 31, 0, 0, 0, 0, 0][..]].concat();
+    let range = [0x1000u64, 0x100].iter().flat_map(|it| it.to_le_bytes()).collect::<Vec<u8>>();
+    // DW_CFA_def_cfa_offset, DW_CFA_offset of x30 and x29
+    let mut code = vec![0x0e, size as u8, 0x9e, lr as u8];
+    code.extend(fp.iter().flat_map(|&fp| [0x9d, fp as u8]));
+    code.resize(8, 0);
+    let fde = [&[0; 4], &range[..], &code].concat();
+    let entries = [cie, fde].map(|entry| [&(entry.len() as u32).to_le_bytes(), &entry[..]].concat());
+    let info =
+        ExplicitModuleSectionInfo { base_svma: 0x1000, debug_frame: Some(entries.concat()), ..Default::default() };
+    Module::new("m".into(), start..start + 0x100, start, info)
+}
+
 /// Numbers that look random, and are the same each time.
 struct Numbers(u64);
 
@@ -351,8 +368,19 @@ fn word_at(stack: &[Option<u64>], address: u64) -> Result<u64, ()> {
 /// What a walk shows: each frame with its registers, the words that were asked for up to there, and how it ended.
 type Shown<R> = (Vec<(u64, R, usize)>, Result<Option<u64>, Error>, Vec<u64>);
 
-/// Walks with the iterator, and after an error once more from the frame where it is.
+/// How a walk by an iterator is made.
+#[derive(Clone, Copy, Debug)]
+enum Way {
+    /// A frame is found when it is asked for.
+    Lazily,
+    /// Frames are found ahead, and registers are asked for at each frame whose number a multiple of this is.
+    Ahead(usize),
+}
+
+/// Walks with the iterator, and after an error once more from the frame where it is. Where registers are not asked for, those
+/// of the frame before are shown.
 fn by_iterator<U: Unwinder<UnwindRegs: Copy>>(
+    way: Way,
     unwinder: &U,
     regs: U::UnwindRegs,
     cache: &mut U::Cache,
@@ -363,17 +391,52 @@ fn by_iterator<U: Unwinder<UnwindRegs: Copy>>(
         asked.borrow_mut().push(address);
         word_at(stack, address)
     };
-    let mut iter = unwinder.iter_frames(0x7fff, regs, cache, &mut read_stack);
-    let mut frames = Vec::new();
+    let (mut iter, apart) = match way {
+        Way::Lazily => (unwinder.iter_frames_lazily(0x7fff, regs, cache, &mut read_stack), 1),
+        Way::Ahead(apart) => (unwinder.iter_frames(0x7fff, regs, cache, &mut read_stack), apart),
+    };
+    let mut frames: Vec<(u64, U::UnwindRegs, usize)> = Vec::new();
     let end = loop {
         match iter.next() {
-            Ok(Some(frame)) => frames.push((frame.address(), *iter.regs(), asked.borrow().len())),
+            Ok(Some(frame)) => {
+                let regs = if frames.len() % apart == 0 { *iter.regs() } else { frames[frames.len() - 1].1 };
+                frames.push((frame.address(), regs, asked.borrow().len()));
+            }
             Ok(None) => break Ok(None),
             Err(error) => break Err(error),
         }
     };
+    let last = frames.len() - 1;
+    frames[last].1 = *iter.regs();
     assert_eq!(iter.next().map(|it| it.map(FrameAddress::address)), end);
+    assert!(end.is_err() || iter.next() == Ok(None));
     (frames, end, asked.into_inner())
+}
+
+/// What a walk shows in its way, of all that single steps show.
+fn shown_by<R: Copy>(way: Way, steps: &Shown<R>) -> Shown<R> {
+    let (mut frames, end, asked) = steps.clone();
+    if let Way::Ahead(apart) = way {
+        let last = frames.len() - 1;
+        for at in 0..last {
+            frames[at].1 = frames[at - at % apart].1;
+        }
+    }
+    (frames, end, asked)
+}
+
+/// Asserts that a walk by an iterator shows what single steps do. Where it finds frames ahead, their words are asked for
+/// earlier, of at most 15 frames.
+fn assert_shows<R: Copy + PartialEq + std::fmt::Debug>(way: Way, shown: &Shown<R>, steps: &Shown<R>, walk: usize) {
+    let mut wanted = shown_by(way, steps);
+    if let Way::Ahead(_) = way {
+        for at in 0..wanted.0.len() {
+            let most = steps.0.get(at + 15).map_or(steps.2.len(), |frame| frame.2);
+            assert!((wanted.0[at].2..=most).contains(&shown.0[at].2), "in walk {walk}, {way:?}, at frame {at}");
+            wanted.0[at].2 = shown.0[at].2;
+        }
+    }
+    assert_eq!(*shown, wanted, "in walk {walk}, {way:?}");
 }
 
 /// The same by single steps.
@@ -417,6 +480,8 @@ fn random_stack(numbers: &mut Numbers) -> Vec<Option<u64>> {
     (0..256).map(word).collect()
 }
 
+const WAYS: [Way; 4] = [Way::Lazily, Way::Ahead(1), Way::Ahead(3), Way::Ahead(usize::MAX)];
+
 /// Also where the words of a frame are known from an earlier walk, the iterator shows what single steps do: frames, registers,
 /// the words that are asked for in their order, and counts. Modules come and go meanwhile.
 #[test]
@@ -441,21 +506,31 @@ fn iterates_as_single_steps_do() {
         let (sp, fp) = (STACK + 8 * numbers.below(4), STACK + 8 * numbers.below(12));
         let mut regs = UnwindRegsX86_64::new(0x7fff, sp, fp);
         regs.set(Reg::RBX, numbers.below(1000));
-        let shown = by_iterator(&unwinder, regs, &mut cache, &stack);
-        assert_eq!(shown, by_steps(&unwinder, regs, &mut others, &stack), "in walk {walk}");
+        let way = WAYS[walk % WAYS.len()];
+        let shown = by_iterator(way, &unwinder, regs, &mut cache, &stack);
+        assert_shows(way, &shown, &by_steps(&unwinder, regs, &mut others, &stack), walk);
         assert_eq!(cache.stats(), others.stats(), "in walk {walk}");
         longest = longest.max(shown.0.len());
     }
     assert!(longest > 12, "{longest}");
 }
 
-/// The same on aarch64, by frame records.
+/// The same on aarch64, by frame records, and by modules that come and go.
 #[test]
 fn iterates_as_single_steps_do_on_aarch64() {
     let mut numbers = Numbers(2);
-    let (unwinder, mut cache, mut others) =
-        (UnwinderAarch64::<Vec<u8>>::new(), CacheAarch64::new(), CacheAarch64::new());
-    for walk in 0..5_000 {
+    let mut unwinder = UnwinderAarch64::<Vec<u8>>::new();
+    let (mut cache, mut others) = (CacheAarch64::new(), CacheAarch64::new());
+    let mut longest = 0;
+    for walk in 0..10_000 {
+        if walk % 500 == 0 {
+            for at in 0..8 {
+                unwinder.remove_module(0x10000 + 0x100 * at);
+                let (size, lr) = (16 * (1 + numbers.below(3)), 1 + numbers.below(2));
+                let fp = (numbers.below(3) > 0).then_some(3 - lr);
+                unwinder.add_module(saves_at(0x10000 + 0x100 * at, size, lr, fp));
+            }
+        }
         let mut stack = random_stack(&mut numbers);
         for word in stack.iter_mut().skip(1).step_by(2) {
             *word = word.map(|word| if word >= STACK { 0xab00_0000_0001_0080 } else { word });
@@ -463,10 +538,194 @@ fn iterates_as_single_steps_do_on_aarch64() {
         let (sp, fp) = (STACK + 8 * numbers.below(4), STACK + 16 * numbers.below(6));
         let mask = PtrAuthMask::new_24_40();
         let regs = UnwindRegsAarch64::new_with_ptr_auth_mask(mask, 0x10080, sp, fp);
-        let shown = by_iterator(&unwinder, regs, &mut cache, &stack);
-        assert_eq!(shown, by_steps(&unwinder, regs, &mut others, &stack), "in walk {walk}");
+        let way = WAYS[walk % WAYS.len()];
+        let shown = by_iterator(way, &unwinder, regs, &mut cache, &stack);
+        assert_shows(way, &shown, &by_steps(&unwinder, regs, &mut others, &stack), walk);
         assert_eq!(cache.stats(), others.stats(), "in walk {walk}");
+        longest = longest.max(shown.0.len());
     }
+    assert!(longest > 12, "{longest}");
+}
+
+/// A module of 256 bytes with a function of a PE file that pushes rbx and lowers rsp by 8.
+fn pops_rbx_at(start: u64) -> Module<Vec<u8>> {
+    let pdata = [0u32, 0x100, 0x3000].iter().flat_map(|it| it.to_le_bytes()).collect();
+    let xdata = vec![0x01, 0x08, 2, 0, 0x08, 0x02, 0x01, 0x30];
+    Module::new("m".into(), start..start + 0x100, start, Pe { pdata: Some(pdata), xdata: Some(xdata) })
+}
+
+/// A rule pops one register, which a step can't tell from the frame pointer where both are the same. The frame after it goes by
+/// the frame pointer.
+#[test]
+fn keeps_the_frame_pointer_where_a_like_word_is_popped() {
+    let mut unwinder = UnwinderX86_64::<Vec<u8>>::new();
+    unwinder.add_module(pops_rbx_at(0x10000));
+    let (mut cache, mut others) = (CacheX86_64::new(), CacheX86_64::new());
+    let next = STACK + 8 * 8;
+    for rbx in [next, next, 7, STACK + 8 * 12, next] {
+        // a frame record, two frames that pop rbx, and records, the first of which is next
+        let mut stack = vec![next, 0x10080, 1, rbx, 0x10080, 1, rbx, 0x20000];
+        stack.extend((0..6).flat_map(|i| [next + 32 * (i + 1), 0x20010 + i, 0, 0]));
+        let stack: Vec<_> = stack.into_iter().chain([0; 2]).map(Some).collect();
+        for way in [Way::Lazily, Way::Lazily, Way::Ahead(usize::MAX), Way::Ahead(usize::MAX), Way::Ahead(2)] {
+            let regs = UnwindRegsX86_64::new(0x7fff, STACK - 16, STACK);
+            let shown = by_iterator(way, &unwinder, regs, &mut cache, &stack);
+            assert_shows(way, &shown, &by_steps(&unwinder, regs, &mut others, &stack), rbx as usize);
+            assert_eq!(cache.stats(), others.stats(), "{rbx:x}, {way:?}");
+            assert_eq!((shown.0.len(), shown.1), (10, Ok(None)));
+        }
+    }
+}
+
+/// A stack of linked frame records from [`STACK`] on, and the index of the first word of each record but the first.
+fn linked(count: u64) -> Vec<Option<u64>> {
+    let record = |i: u64| [STACK + 32 * (i + 1), 0x20000 + 16 * i, i, i];
+    let mut stack: Vec<_> = (0..count).flat_map(record).map(Some).collect();
+    stack.extend([Some(0); 4]);
+    stack
+}
+
+/// Walks of up to 70 frames by frame records, over a cache that knows where their words are: each one that ends by a word that
+/// can't be read, by a frame pointer that does not rise, or at the root, at each of its frames.
+#[test]
+fn ends_at_the_same_frame() {
+    fn ends<U: Unwinder<UnwindRegs: Copy + PartialEq + std::fmt::Debug>>(
+        unwinder: &U,
+        regs: U::UnwindRegs,
+        (cache, others): (&mut U::Cache, &mut U::Cache),
+        stats: impl Fn(&U::Cache) -> CacheStats,
+    ) {
+        let whole = linked(70);
+        for _ in 0..3 {
+            let _ = by_iterator(Way::Lazily, unwinder, regs, cache, &whole);
+            let _ = by_steps(unwinder, regs, others, &whole);
+        }
+        for at in 0..4 * 36 {
+            for word in [None, Some(0), Some(STACK), Some(STACK + 8 * (at as u64 & !3)), Some(5)] {
+                let mut stack = whole.clone();
+                stack[at] = word;
+                for way in WAYS {
+                    let shown = by_iterator(way, unwinder, regs, cache, &stack);
+                    assert_shows(way, &shown, &by_steps(unwinder, regs, others, &stack), at);
+                    assert_eq!(stats(cache), stats(others), "at {at}, {word:?}, {way:?}");
+                }
+            }
+        }
+    }
+    let mut caches = (CacheX86_64::new(), CacheX86_64::new());
+    let regs = UnwindRegsX86_64::new(0x7fff, STACK - 16, STACK);
+    ends(&UnwinderX86_64::<Vec<u8>>::new(), regs, (&mut caches.0, &mut caches.1), CacheX86_64::stats);
+    let mut caches = (CacheAarch64::new(), CacheAarch64::new());
+    let regs = UnwindRegsAarch64::new(0x7fff, STACK - 16, STACK);
+    ends(&UnwinderAarch64::<Vec<u8>>::new(), regs, (&mut caches.0, &mut caches.1), CacheAarch64::stats);
+}
+
+/// A walk that is left after each number of frames: the registers are those of the last one, and the words that were asked for
+/// are the first ones that single steps ask for, those of at most 15 frames ahead; of none where frames are found lazily.
+#[test]
+fn is_left_after_each_frame() {
+    let stack = linked(80);
+    let unwinder = UnwinderX86_64::<Vec<u8>>::new();
+    let (mut cache, mut others) = (CacheX86_64::new(), CacheX86_64::new());
+    let regs = UnwindRegsX86_64::new(0x7fff, STACK - 16, STACK);
+    for _ in 0..2 {
+        let _ = by_iterator(Way::Lazily, &unwinder, regs, &mut cache, &stack);
+    }
+    let (frames, _, all) = by_steps(&unwinder, regs, &mut others, &stack);
+    let runs = [0, 1, 3, 7, 15, 31, 47, 63];
+    for count in 1..=70 {
+        for is_lazy in [false, true] {
+            let before = cache.stats().total();
+            let asked = RefCell::new(Vec::new());
+            let mut read_stack = |address: u64| {
+                asked.borrow_mut().push(address);
+                word_at(&stack, address)
+            };
+            let mut iter = match is_lazy {
+                true => unwinder.iter_frames_lazily(0x7fff, regs, &mut cache, &mut read_stack),
+                false => unwinder.iter_frames(0x7fff, regs, &mut cache, &mut read_stack),
+            };
+            for frame in &frames[..count] {
+                assert_eq!(iter.next().map(|it| it.map(FrameAddress::address)), Ok(Some(frame.0)));
+            }
+            assert_eq!(*iter.regs(), frames[count - 1].1, "after {count} frames");
+            let found = if is_lazy { count - 1 } else { *runs.iter().find(|&&run| run >= count - 1).unwrap_or(&79) };
+            assert_eq!(asked.into_inner(), all[..2 * found], "after {count} frames");
+            assert_eq!(cache.stats().total() - before, found as u64, "after {count} frames");
+        }
+    }
+}
+
+/// A word that can't be read ends a walk at its frame only, and is asked for anew by the next call.
+#[test]
+fn goes_on_where_a_word_can_be_read_later() {
+    let stack = linked(40);
+    let unwinder = UnwinderX86_64::<Vec<u8>>::new();
+    let mut cache = CacheX86_64::new();
+    let regs = UnwindRegsX86_64::new(0x7fff, STACK - 16, STACK);
+    for _ in 0..2 {
+        let _ = by_iterator(Way::Lazily, &unwinder, regs, &mut cache, &stack);
+    }
+    for at in 0..80 {
+        let missing = STACK + 32 * (at / 2) + 8 * (at % 2);
+        let refusals = Cell::new(2);
+        let mut read_stack = |address: u64| {
+            if address == missing && refusals.get() > 0 {
+                refusals.set(refusals.get() - 1);
+                return Err(());
+            }
+            word_at(&stack, address)
+        };
+        let mut iter = unwinder.iter_frames(0x7fff, regs, &mut cache, &mut read_stack);
+        let (mut frames, mut errors) = (0, 0);
+        loop {
+            match iter.next() {
+                Ok(Some(_)) => frames += 1,
+                Ok(None) => break,
+                Err(error) => {
+                    assert_eq!((error, frames), (Error::CouldNotReadStack(missing), at / 2 + 1));
+                    errors += 1;
+                }
+            }
+        }
+        assert_eq!((frames, errors), (41, 2));
+    }
+}
+
+/// A callback that panics while frames are found ahead leaves the iterator at its frame.
+#[test]
+fn comes_through_a_panic_ahead() {
+    let stack = linked(40);
+    let unwinder = UnwinderX86_64::<Vec<u8>>::new();
+    let mut cache = CacheX86_64::new();
+    let regs = UnwindRegsX86_64::new(0x7fff, STACK - 16, STACK);
+    for _ in 0..2 {
+        let _ = by_iterator(Way::Lazily, &unwinder, regs, &mut cache, &stack);
+    }
+    let hook = std::panic::take_hook();
+    std::panic::set_hook(Box::new(|_| {}));
+    let mut panics = 0;
+    for at in 0..80 {
+        let is_armed = Cell::new(true);
+        let mut read_stack = |address: u64| {
+            if address == STACK + 32 * (at / 2) + 8 * (at % 2) && is_armed.replace(false) {
+                panic!();
+            }
+            word_at(&stack, address)
+        };
+        let mut iter = unwinder.iter_frames(0x7fff, regs, &mut cache, &mut read_stack);
+        let mut frames = 0;
+        loop {
+            match std::panic::catch_unwind(std::panic::AssertUnwindSafe(|| iter.next())) {
+                Ok(Ok(Some(_))) => frames += 1,
+                Ok(end) => break assert_eq!(end, Ok(None)),
+                Err(_) => panics += 1,
+            }
+        }
+        assert_eq!(frames, 41);
+    }
+    std::panic::set_hook(hook);
+    assert_eq!(panics, 80);
 }
 
 /// The names that are asked for, in their order.

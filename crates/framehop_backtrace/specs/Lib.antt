@@ -1,4 +1,5 @@
--- What the contracts of this crate cite: frames with whole register files, how one leads to the next, and backtraces.
+-- What the contracts of this crate cite: frames with whole register files, how one leads to the next, signal
+-- frames, and backtraces.
 pub mod Backtrace
 pub mod Call
 pub mod Code
@@ -11,3 +12,4 @@ pub mod Library
 pub mod Machine
 pub mod Restored
 pub mod Rows
+pub mod Signal

@@ -1,8 +1,7 @@
 -- What a backtrace needs of an architecture.
 -- (System V ABI for AMD64, figure 3.36; DWARF for the Arm 64-bit Architecture, section 4.1; Linux, `struct
 -- sigcontext`.)
-use Rattle.std.specs.Prelude.{ℕ, ◌+◌, ◌*◌, Bool, true, ◌&&◌, is_some, nat_le, if◌then◌else◌, List, [], ◌∷◌, ◌++◌, length, slice_get, Option, Some, None, option_map, unwrap_or}
-use Rattle.framehop_bytes.specs.Bytes.{le8}
+use Rattle.std.specs.Prelude.{ℕ, Bool, true, ◌&&◌, is_some, List, [], ◌∷◌, ◌++◌, slice_get, Option, Some, None, option_map, unwrap_or}
 use Rattle.framehop_core.specs.Memory.{Memory}
 use Rattle.framehop_core.specs.Outcome.{Outcome}
 use Rattle.framehop_core.specs.X86_64.Registers.{Registers as RegistersX86_64, words_of}
@@ -21,10 +20,10 @@ use Rattle.framehop_columns.specs.declared.convention.Convention.TheVariants.{X8
 use Rattle.framehop_runs.specs.Run.{caller_by_runs}
 use Rattle.framehop_runs.specs.Step.{Source as RunSource}
 use Rattle.framehop_runs.specs.declared.run.RunCaller.{RunCaller}
-use Rattle.framehop_signal.specs.Frame.{interrupted_x86_64}
 use Rattle.framehop_backtrace.specs.Call.{is_after_call_x86_64, is_after_call_aarch64, call_target_x86_64, call_target_aarch64, has_set_x86_64, has_set_aarch64}
 use Rattle.framehop_backtrace.specs.Columns.{columns_by, column, with_column}
 use Rattle.framehop_backtrace.specs.Restored.{with_restored, with_completed}
+use Rattle.framehop_backtrace.specs.Signal.{interrupted_x86_64, interrupted_aarch64}
 
 -- `strip`: a pointer to code without its pointer authentication bits, by the mask of the registers. `columns`: what the
 -- library's step to an address leaves exactly. `merged`: the library's registers with the columns that are known.
@@ -155,12 +154,6 @@ merged_aarch64 r columns = record {
 abbrev pub can_step_aarch64 : List (Option ℕ) → Bool
 can_step_aarch64 columns = is_some (column columns SP) && is_some (column columns X29) && is_some (column columns X30)
 
--- The registers of a signal frame: x0 to x30, sp and pc, which are the columns 0 to 32, have a word each after
--- fault_address of `struct sigcontext` (arch/arm64/include/uapi/asm/sigcontext.h), which is 304 bytes from sp.
-abbrev pub saved_aarch64 : List ℕ → Option (ℕ × List (Option ℕ))
-saved_aarch64 frame =
-    if nat_le 576 (length frame) then Some (le8 frame 568, columns_by (λ at. Some (le8 frame (312 + at * 8)))) else None
-
 -- aarch64
 abbrev pub machine_aarch64 : Machine RegistersAarch64
 machine_aarch64 = record {
@@ -170,7 +163,7 @@ machine_aarch64 = record {
   merged = merged_aarch64;
   can_step = can_step_aarch64;
   frame_size = 576;
-  saved = saved_aarch64;
+  saved = interrupted_aarch64;
   is_after_call = is_after_call_aarch64;
   call_target = call_target_aarch64;
   has_set = has_set_aarch64;

@@ -1,18 +1,14 @@
 //! Backtraces of aarch64.
-ghost use Rattle.std.specs.Prelude.{◌≡◌, ◌≤◌, ◌+◌, ◌*◌, Some, length};
-ghost use Rattle.framehop_bytes.specs.Bytes.{le8};
-ghost use Rattle.framehop_backtrace.specs.Columns.{columns_by};
-
 use crate::call::{call_target_aarch64, has_set_aarch64, is_after_call_aarch64};
 use crate::covers::is_covered;
 use crate::info::is_by_info;
 use crate::machine::{BacktraceUnwinder, known_or};
 use crate::memory::CodeMemory;
 use crate::rows::{RowFinding, Rows};
+use crate::signal::{FRAME_SIZE_AARCH64, interrupted_aarch64};
 use crate::step::{follow_frame_pointer, step_at_start};
 use framehop::AllocationPolicy;
 use framehop::aarch64::UnwinderAarch64;
-use framehop_bytes::bytes::u64_at;
 use framehop_bytes::section::SectionBytes;
 use framehop_cfi::aarch64;
 use framehop_cfi::context::UnwindContext;
@@ -25,7 +21,6 @@ use framehop_core::aarch64::{UnwindRegsAarch64, UnwindRuleAarch64};
 use framehop_core::{Error, FrameAddress};
 use framehop_runs::run::RunCaller;
 use framehop_runs::step::RunMemory;
-use framehop_signal::aarch64::FRAME_SIZE;
 use std::alloc::AllocError;
 
 impl<D: SectionBytes + Drop, P: AllocationPolicy> BacktraceUnwinder for UnwinderAarch64<D, P> {
@@ -71,14 +66,11 @@ impl<D: SectionBytes + Drop, P: AllocationPolicy> BacktraceUnwinder for Unwinder
     }
 
     fn frame_size() -> u64 {
-        FRAME_SIZE
+        FRAME_SIZE_AARCH64
     }
 
     fn saved(frame: &[u8]) -> Option<(u64, RegisterFile)> {
-        if (frame.len() as u64) < FRAME_SIZE {
-            return None;
-        }
-        Some((u64_at(frame, 568), saved_columns(frame)))
+        interrupted_aarch64(frame)
     }
 
     fn is_after_call<M: CodeMemory>(memory: &M, address: u64) -> bool {
@@ -165,19 +157,4 @@ impl<D: SectionBytes + Drop, P: AllocationPolicy> Rows for UnwinderAarch64<D, P>
     ) -> Result<RowFinding<'_>, AllocError> {
         self.inner().row_at(unwind_context, address)
     }
-}
-
-/// Returns x0 to x30, sp and pc of a signal frame.
-fn saved_columns(frame: &[u8]) -> RegisterFile
-    requires { 576 ≤ length frame.now }
-    ensures { result ≡ columns_by (λ at. Some (le8 frame.now (312 + at * 8))) }
-{
-    let mut columns = RegisterFile::new();
-    let mut at = 0u16;
-    while at < 33 {
-        let word = u64_at(frame, 312 + usize::from(at) * 8);
-        columns.set(Register(at), Some(word));
-        at += 1;
-    }
-    columns
 }

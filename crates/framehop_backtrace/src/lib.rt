@@ -38,6 +38,7 @@ pub mod next;
 mod restored;
 pub mod rows;
 mod run;
+pub mod signal;
 pub mod step;
 pub mod walk;
 pub mod x86_64;

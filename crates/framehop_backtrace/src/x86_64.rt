@@ -11,6 +11,7 @@ use crate::machine::{BacktraceUnwinder, known_or};
 use crate::memory::CodeMemory;
 use crate::restored::{with_completed, with_restored};
 use crate::rows::{RowFinding, Rows};
+use crate::signal::{FRAME_SIZE_X86_64, interrupted_x86_64};
 use crate::step::{follow_frame_pointer, step_at_start};
 use framehop::AllocationPolicy;
 use framehop::x86_64::UnwinderX86_64;
@@ -26,7 +27,6 @@ use framehop_core::x86_64::{Reg, UnwindRegsX86_64, UnwindRuleX86_64};
 use framehop_core::{Error, FrameAddress};
 use framehop_runs::run::{RunCaller, caller_by_runs};
 use framehop_runs::step::RunMemory;
-use framehop_signal::x86_64::{FRAME_SIZE, interrupted};
 use std::alloc::AllocError;
 
 impl<D: SectionBytes + Drop, P: AllocationPolicy> BacktraceUnwinder for UnwinderX86_64<D, P> {
@@ -66,11 +66,11 @@ impl<D: SectionBytes + Drop, P: AllocationPolicy> BacktraceUnwinder for Unwinder
     }
 
     fn frame_size() -> u64 {
-        FRAME_SIZE
+        FRAME_SIZE_X86_64
     }
 
     fn saved(frame: &[u8]) -> Option<(u64, RegisterFile)> {
-        match interrupted(frame) {
+        match interrupted_x86_64(frame) {
             Some(regs) => Some((regs.ip(), all_columns(&regs))),
             None => None,
         }

@@ -11,7 +11,7 @@ use Rattle.framehop_elf.specs.declared.symbol.Symbol.{Symbol}
 use Rattle.framehop_check.specs.declared.missing.Range.{Range}
 use Rattle.framehop_check.specs.declared.report.Counts.{Counts}
 use Rattle.framehop_check.specs.declared.sections.CodeSection.{CodeSection}
-use Rattle.framehop_check_cli.specs.declared.file.Others.{Others}
+use Rattle.framehop_check_cli.specs.declared.findings.Others.{Others}
 
 -- rows are in `.eh_frame`, or else in `.debug_frame`
 abbrev pub eh_frame_or : Option SectionHeader → Option SectionHeader → Option (SectionHeader × UnwindSectionType)

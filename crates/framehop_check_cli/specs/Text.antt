@@ -13,7 +13,7 @@ use Rattle.framehop_check.specs.declared.report.Alarm.{Alarm}
 use Rattle.framehop_check.specs.declared.report.Counts.{Counts}
 use Rattle.framehop_check.specs.declared.tracked.Fault.{Fault}
 use Rattle.framehop_check.specs.declared.tracked.Fault.TheVariants.{Differs, Overwritten, Returns, Jumps}
-use Rattle.framehop_check_cli.specs.declared.file.Others.{Others}
+use Rattle.framehop_check_cli.specs.declared.findings.Others.{Others}
 use Rattle.framehop_check_cli.specs.declared.missing.Sizes.{Sizes}
 
 -- pieces of a text, one after another

@@ -1,4 +1,8 @@
 //! Functions of which no alarm is told.
+ghost use Rattle.std.specs.Prelude.{◌≡◌, nat_eq, option_map};
+ghost use Rattle.std.specs.Cmp.Lexicographic.{pointwise};
+ghost use Rattle.framehop_check_cli.specs.Findings.{is_allowed, is_listed};
+
 use std::alloc::{AllocError, Global};
 
 /// Names of functions, as a file has them: one a line. Empty lines and those that begin with `#` name none.
@@ -20,10 +24,29 @@ impl<'a> Allowed<'a> {
         Ok(Allowed { names })
     }
 
-    /// Returns whether the function of a name is among them.
-    pub fn has(&self, name: &[u8]) -> bool {
-        self.names.iter().any(|other| *other == name)
+    /// Returns whether a function may have alarms: one whose name is among them.
+    pub fn allows(&self, function: Option<(&str, u64)>) -> bool
+        ensures { result ≡ is_allowed self.now (option_map (λ name. (name.0.now, name.1)) function.entry) }
+    {
+        match function {
+            Some((name, _)) => self.has(name.as_bytes()),
+            None => false,
+        }
     }
+
+    /// Returns whether a name is among them.
+    fn has(&self, name: &[u8]) -> bool
+        ensures { result ≡ is_listed self.now name.now }
+    {
+        self.names.iter().any(|one| is_same(one, name))
+    }
+}
+
+/// Returns whether two names are the same.
+fn is_same(one: &[u8], other: &[u8]) -> bool
+    ensures { result ≡ pointwise nat_eq one.now other.now }
+{
+    one == other
 }
 
 /// Returns the bytes without spaces, tabs and carriage returns around them.

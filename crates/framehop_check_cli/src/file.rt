@@ -1,19 +1,20 @@
 //! The check of a file.
-ghost use Rattle.std.specs.Prelude.{◌≡◌};
-ghost use Rattle.framehop_check_cli.specs.Parts.{is_good};
+ghost use Rattle.std.specs.Prelude.{◌≡◌, Ok, option_map, IfOk, OnOk};
+ghost use Rattle.framehop_check_cli.specs.Checked.{AreRowsChecked, IsChecked};
+ghost use Rattle.framehop_check_cli.specs.Findings.{name_in, named, name_at, found_view, machine_of, IsSectionChecked};
+ghost use Rattle.framehop_check_cli.specs.Opened.{symbols_by, strings_by, rows_of, ArePartsOf, IsRowsSection, AreRowsBy, IsOpened};
+ghost use Rattle.framehop_check_cli.specs.Parts.{rows_section, symbol_section};
 
 use crate::allowed::Allowed;
+use crate::findings::Findings;
 use crate::parts::{code_of, function_ranges, rows_section, symbol_section};
-use crate::text::{push_alarm, push_note, push_summary};
 use framehop_bytes::bytes::{back, front};
-use framehop_bytes::string::string_at;
-use framehop_cfi::entry::{FrameDescriptionEntry, UnwindSection, UnwindSectionType};
+use framehop_bytes::string::before_nul;
+use framehop_cfi::entry::{UnwindSection, UnwindSectionType};
 use framehop_cfi::pointer::BaseAddresses;
-use framehop_cfi::storage::StoreOnHeap;
 use framehop_check::check::Checker;
 use framehop_check::entries::read_fdes;
 use framehop_check::missing::Range;
-use framehop_check::report::{Counts, Report};
 use framehop_check::room::Room;
 use framehop_check::sections::CodeSections;
 use framehop_code::aarch64::CodeAarch64;
@@ -23,6 +24,7 @@ use framehop_elf::decompressed::{ContentsError, read_decompressed};
 use framehop_elf::elf_file::ElfFile;
 use framehop_elf::error::ElfError;
 use framehop_elf::header::{EM_AARCH64, EM_X86_64};
+use framehop_elf::section_header::SectionHeader;
 use framehop_elf::symbol::{Symbol, SymbolTable, read_function_symbols, read_symbol_names};
 use framehop_pe_file::error::PeError;
 use std::alloc::{AllocError, Global};
@@ -122,41 +124,44 @@ fn check_opened(
     opened: &Opened<'_>,
     options: Options,
     allowed: &Allowed<'_>,
-) -> Result<Checked, AllocError> {
+) -> Result<Checked, AllocError>
+    ensures { IfOk result (IsChecked path.now size opened.now options allowed.now opened.now.rows) }
+{
     let Some(rows) = &opened.rows else {
         return Ok(Checked::Refused(Refusal::NoRows));
     };
-    let room = Room::new(size, rows.contents.len());
-    let mut findings = Findings::new(alloc, room);
-    if check_rows(alloc, opened, rows, options, allowed, &mut findings)? {
-        findings.into_checked(path)
-    } else {
-        Ok(Checked::Refused(Refusal::Machine(opened.machine)))
+    let parts = &opened.parts;
+    match opened.machine {
+        EM_X86_64 => check_rows::<CodeX86_64>(alloc, path, size, parts, rows, options, allowed),
+        EM_AARCH64 => check_rows::<CodeAarch64>(alloc, path, size, parts, rows, options, allowed),
+        machine => Ok(Checked::Refused(Refusal::Machine(machine))),
     }
 }
 
-/// Checks all FDEs of a file, by its machine. Returns whether that is x86_64 or aarch64.
-fn check_rows(
+/// Returns the lines for a file of a size, by its rows.
+fn check_rows<C: Code>(
     alloc: Global,
-    opened: &Opened<'_>,
+    path: &str,
+    size: usize,
+    parts: &Parts<'_>,
     rows: &Rows,
     options: Options,
     allowed: &Allowed<'_>,
-    findings: &mut Findings,
-) -> Result<bool, AllocError> {
-    let parts = &opened.parts;
-    let section = rows.section();
-    match opened.machine {
-        EM_X86_64 => {
-            check_section::<CodeX86_64>(alloc, &section, parts, options, allowed, findings)?;
-            Ok(true)
-        }
-        EM_AARCH64 => {
-            check_section::<CodeAarch64>(alloc, &section, parts, options, allowed, findings)?;
-            Ok(true)
-        }
-        _ => Ok(false),
-    }
+) -> Result<Checked, AllocError>
+    ensures { IfOk result (AreRowsChecked (machine_of C.instruction C.numbered C.return_column C.entry C.named)
+        path.now size parts.now rows.now options allowed.now) }
+{
+    let room = Room::new(size, rows.contents.len());
+    let mut findings = Findings::new(alloc, room);
+    check_section::<C>(
+        alloc,
+        &rows.section(),
+        parts,
+        options,
+        allowed,
+        &mut findings,
+    )?;
+    findings.into_checked(path)
 }
 
 /// What a file has to be checked by.
@@ -170,15 +175,17 @@ pub struct Opened<'a> {
 /// The section that has the rows.
 #[derive(Drop)]
 pub struct Rows {
-    contents: Vec<u8>,
+    pub contents: Vec<u8>,
     /// Its first address (SVMA).
-    address: u64,
-    kind: UnwindSectionType,
+    pub address: u64,
+    pub kind: UnwindSectionType,
 }
 
 impl Rows {
     /// Returns the section.
-    pub fn section(&self) -> UnwindSection<'_> {
+    pub fn section(&self) -> UnwindSection<'_>
+        ensures { result ≡ rows_of self.now }
+    {
         let bases = BaseAddresses {
             eh_frame: self.address,
             ..BaseAddresses::default()
@@ -188,7 +195,9 @@ impl Rows {
 }
 
 /// Reads what a file has to be checked by.
-pub fn open(alloc: Global, file: &[u8]) -> Result<Opened<'_>, Refusal> {
+pub fn open(alloc: Global, file: &[u8]) -> Result<Opened<'_>, Refusal>
+    ensures { IfOk result (IsOpened file.entry.now) }
+{
     let elf = ElfFile::read(alloc, file)?;
     Ok(Opened {
         machine: elf.header().e_machine,
@@ -198,7 +207,9 @@ pub fn open(alloc: Global, file: &[u8]) -> Result<Opened<'_>, Refusal> {
 }
 
 /// Reads the code and the symbols of a file.
-fn read_parts<'a>(alloc: Global, elf: &ElfFile<'a>) -> Result<Parts<'a>, ElfError> {
+fn read_parts<'a>(alloc: Global, elf: &ElfFile<'a>) -> Result<Parts<'a>, ElfError>
+    ensures { IfOk result (ArePartsOf elf.now) }
+{
     let (symbols, strings) = read_symbols(alloc, elf)?;
     Ok(Parts {
         code: CodeSections::new(code_of(alloc, elf.bytes(), elf.sections())?)?,
@@ -209,15 +220,29 @@ fn read_parts<'a>(alloc: Global, elf: &ElfFile<'a>) -> Result<Parts<'a>, ElfErro
 }
 
 /// Reads the section that has the rows, if there is one.
-fn read_rows(alloc: Global, elf: &ElfFile<'_>) -> Result<Option<Rows>, Refusal> {
-    let Some((section, kind)) = rows_section(elf) else {
-        return Ok(None);
-    };
-    Ok(Some(Rows {
+fn read_rows(alloc: Global, elf: &ElfFile<'_>) -> Result<Option<Rows>, Refusal>
+    ensures { IfOk result (AreRowsBy elf.now (rows_section elf.now)) }
+{
+    match rows_section(elf) {
+        Some((section, kind)) => Ok(Some(rows_in(alloc, elf, section, kind)?)),
+        None => Ok(None),
+    }
+}
+
+/// Reads the rows of a section.
+fn rows_in(
+    alloc: Global,
+    elf: &ElfFile<'_>,
+    section: SectionHeader,
+    kind: UnwindSectionType,
+) -> Result<Rows, Refusal>
+    ensures { IfOk result (IsRowsSection elf.now section kind) }
+{
+    Ok(Rows {
         contents: read_decompressed(alloc, elf.bytes(), section)?,
         address: section.sh_addr,
         kind,
-    }))
+    })
 }
 
 /// What a check of a file gives.
@@ -234,71 +259,16 @@ pub struct Parts<'a> {
     pub code: CodeSections<'a>,
     /// Where functions are, by their symbols.
     pub functions: Vec<Range>,
-    symbols: SymbolTable,
+    pub symbols: SymbolTable,
     /// The names of symbols.
-    strings: &'a [u8],
-}
-
-/// Counts beside those of the report.
-#[derive(Clone, Copy)]
-pub struct Others {
-    /// Functions with alarms that are allowed to have them.
-    pub allowed: u64,
-    /// Entries that can't be read.
-    pub unreadable: u64,
-    /// FDEs whose code is not in the file.
-    pub without_code: u64,
-    /// FDEs that are not checked, since they share code or a CIE with too many others.
-    pub sharing: u64,
-}
-
-/// What the check of a file has found so far.
-#[derive(Drop)]
-pub struct Findings {
-    pub report: Report,
-    pub others: Others,
-    room: Room,
-    pub text: String,
-}
-
-impl Findings {
-    /// Returns no findings.
-    pub fn new(alloc: Global, room: Room) -> Self {
-        Findings {
-            report: Report::new(alloc),
-            others: Others {
-                allowed: 0,
-                unreadable: 0,
-                without_code: 0,
-                sharing: 0,
-            },
-            room,
-            text: String::new(alloc),
-        }
-    }
-
-    /// Returns the lines with the summary after them, and whether there are no alarms and each entry was read.
-    pub fn into_checked(self, path: &str) -> Result<Checked, AllocError> {
-        let counts: Counts = self.report.counts;
-        let others = self.others;
-        let mut text = self.text;
-        push_summary(path, counts, others, &mut text)?;
-        Ok(Checked::Text {
-            text,
-            is_good: is_good(counts, others),
-        })
-    }
-}
-
-/// Returns whether there are no alarms but allowed ones, and each entry was read and checked.
-fn is_good(counts: Counts, others: Others) -> bool
-    ensures { result ≡ is_good counts others }
-{
-    counts.alarmed == others.allowed && others.unreadable == 0 && others.sharing == 0
+    pub strings: &'a [u8],
 }
 
 /// Returns the symbols of a file's functions, and their names.
-fn read_symbols<'a>(alloc: Global, elf: &ElfFile<'a>) -> Result<(Vec<Symbol>, &'a [u8]), ElfError> {
+fn read_symbols<'a>(alloc: Global, elf: &ElfFile<'a>) -> Result<(Vec<Symbol>, &'a [u8]), ElfError>
+    ensures symbols { IfOk result (λ read. symbols_by elf.entry.now (symbol_section elf.entry.now) ≡ Ok read.0.items) }
+    ensures strings { IfOk result (λ read. strings_by elf.entry.now (symbol_section elf.entry.now) ≡ Ok read.1.now) }
+{
     match symbol_section(elf) {
         Some(table) => {
             let symbols = read_function_symbols(alloc, elf, table)?;
@@ -317,87 +287,36 @@ fn check_section<C: Code>(
     options: Options,
     allowed: &Allowed<'_>,
     findings: &mut Findings,
-) -> Result<(), AllocError> {
+) -> Result<(), AllocError>
+    ensures { OnOk result (IsSectionChecked (machine_of C.instruction C.numbered C.return_column C.entry C.named)
+        section.now parts.now options allowed.now (found_view findings.old) (found_view findings.new)) }
+{
     let fdes = read_fdes(alloc, section)?;
     findings.others.unreadable = fdes.unreadable;
     let mut checker = Checker::new(alloc)?;
-    for fde in &fdes.list {
-        check_fde::<C>(
-            &mut checker,
-            section,
-            parts,
-            fde,
-            options,
-            allowed,
-            findings,
-        )?;
-    }
-    Ok(())
-}
-
-/// Checks an FDE, if the file has its code.
-fn check_fde<C: Code>(
-    checker: &mut Checker<StoreOnHeap>,
-    section: &UnwindSection<'_>,
-    parts: &Parts<'_>,
-    fde: &FrameDescriptionEntry,
-    options: Options,
-    allowed: &Allowed<'_>,
-    findings: &mut Findings,
-) -> Result<(), AllocError> {
-    let Some(code) = parts.code.code_at(fde.initial_address, fde.address_range) else {
-        findings.others.without_code = findings.others.without_code.saturating_add(1);
-        return Ok(());
-    };
-    if !findings.room.take(fde, code.len()) {
-        findings.others.sharing = findings.others.sharing.saturating_add(1);
-        return Ok(());
-    }
-    findings.report.alarms.clear();
-    findings.report.notes.clear();
-    checker.check_function::<C>(section, fde, code, &mut findings.report)?;
-    push_alarms::<C>(parts, fde, code, options, allowed, findings)
-}
-
-/// Appends the alarms of the function that was checked last.
-fn push_alarms<C: Code>(
-    parts: &Parts<'_>,
-    fde: &FrameDescriptionEntry,
-    code: &[u8],
-    options: Options,
-    allowed: &Allowed<'_>,
-    findings: &mut Findings,
-) -> Result<(), AllocError> {
-    let name = name_of(parts, fde.initial_address);
-    let is_allowed = match name {
-        Some((name, _)) => allowed.has(name.as_bytes()),
-        None => false,
-    };
-    if is_allowed && findings.report.alarms.len() > 0 {
-        findings.others.allowed = findings.others.allowed.saturating_add(1);
-    }
-    if is_allowed || options.is_quiet {
-        return Ok(());
-    }
-    for alarm in findings.report.alarms.iter() {
-        let name = name_of(parts, alarm.address);
-        push_alarm::<C>(name, fde.initial_address, code, *alarm, &mut findings.text)?;
-    }
-    if options.has_notes {
-        for address in findings.report.notes.iter() {
-            let name = name_of(parts, *address);
-            push_note(name, fde.initial_address, *address, &mut findings.text)?;
-        }
-    }
-    Ok(())
+    findings.check_fdes::<C>(&mut checker, section, parts, &fdes.list, options, allowed)
 }
 
 /// Returns the name of the function at an address (SVMA), and where the function begins.
-pub fn name_of<'a>(parts: &Parts<'a>, address: u64) -> Option<(&'a str, u64)> {
-    let symbol = parts.symbols.symbol_for(address)?;
-    let string = front(back(parts.strings, u64::from(symbol.st_name)), LONGEST_NAME);
-    match str::from_utf8(string_at(string, 0)) {
+pub fn name_of<'a>(parts: &Parts<'a>, address: u64) -> Option<(&'a str, u64)>
+    ensures { option_map (λ name. (name.0.now, name.1)) result ≡ name_at parts.now address }
+{
+    named(parts.strings, parts.symbols.symbol_for(address)?)
+}
+
+/// Returns the name of a symbol, if it is UTF-8, and where the function begins.
+fn named(strings: &[u8], symbol: Symbol) -> Option<(&str, u64)>
+    ensures { option_map (λ name. (name.0.now, name.1)) result ≡ named strings.entry.now symbol }
+{
+    match str::from_utf8(name_in(strings, symbol)) {
         Ok(name) => Some((name, symbol.st_value)),
         Err(_) => None,
     }
+}
+
+/// Returns the name of a symbol in a table of strings.
+fn name_in(strings: &[u8], symbol: Symbol) -> &[u8]
+    ensures { result.now ≡ name_in strings.entry.now symbol }
+{
+    before_nul(front(back(strings, u64::from(symbol.st_name)), LONGEST_NAME))
 }

@@ -3,6 +3,7 @@
 
 mod allowed;
 mod file;
+mod findings;
 mod missing;
 mod parts;
 mod pe_file;

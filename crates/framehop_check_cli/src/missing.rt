@@ -1,4 +1,7 @@
 //! The list of a file's code that no FDE covers.
+ghost use Rattle.std.specs.Prelude.{◌≡◌, ◌++◌, nat_eq, string_bytes, IfOk, OnOk};
+ghost use Rattle.framehop_check_cli.specs.Checked.{range_lines, listed_text, IsText};
+
 use crate::file::{Checked, Opened, Options, Parts, Refusal, name_of, open};
 use crate::text::{push_missing, push_shares};
 use framehop_check::entries::{Fdes, ranges_of, read_fdes};
@@ -61,7 +64,7 @@ fn list_opened<C: Code>(
         listed: bytes_in(&listed),
         unreadable: fdes.unreadable,
     };
-    text_of(alloc, path, parts, &listed, sizes, options)
+    listed_text(alloc, path, parts, &listed, sizes, options)
 }
 
 /// Returns the FDEs of a file.
@@ -83,23 +86,33 @@ fn code_size(alloc: Global, parts: &Parts<'_>) -> Result<u64, AllocError> {
 }
 
 /// Returns the lines for these ranges, and the summary.
-fn text_of(
+fn listed_text(
     alloc: Global,
     path: &str,
     parts: &Parts<'_>,
     listed: &[Range],
     sizes: Sizes,
     options: Options,
-) -> Result<Checked, AllocError> {
+) -> Result<Checked, AllocError>
+    ensures { IfOk result (IsText (listed_text path.now parts.now listed.now sizes options) (nat_eq sizes.unreadable 0)) }
+{
     let mut text = String::new(alloc);
     if !options.is_quiet {
-        for range in listed {
-            push_missing(name_of(parts, range.start), *range, &mut text)?;
-        }
+        push_ranges(parts, listed, &mut text)?;
     }
     push_shares(path, sizes, &mut text)?;
     Ok(Checked::Text {
         text,
         is_good: sizes.unreadable == 0,
     })
+}
+
+/// Appends a line for each range.
+fn push_ranges(parts: &Parts<'_>, ranges: &[Range], out: &mut String) -> Result<(), AllocError>
+    ensures { OnOk result (string_bytes out.new ≡ string_bytes out.old ++ range_lines parts.now ranges.now) }
+{
+    for range in ranges {
+        push_missing(name_of(parts, range.start), *range, out)?;
+    }
+    Ok(())
 }

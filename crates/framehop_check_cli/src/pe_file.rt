@@ -1,6 +1,12 @@
 //! The check of a PE file: the unwind codes of each entry of its function table.
-use crate::file::{Checked, Findings, Options, Refusal};
-use crate::text::{push_alarm, push_note};
+ghost use Rattle.std.specs.Prelude.{◌≡◌, IfOk, MatchOption, OnOk, Some, None, option_map};
+ghost use Rattle.framehop_pe.specs.Info.{read_by};
+ghost use Rattle.framehop_check_cli.specs.Checked.{IsReported};
+ghost use Rattle.framehop_check_cli.specs.Findings.{found_view};
+ghost use Rattle.framehop_check_cli.specs.PeFindings.{IsPeChecked, IsTableChecked, begin_of, bytes_if, code_of, nothing_yet, prolog_at, with_entry, with_found, with_prolog, with_table};
+
+use crate::file::{Checked, Options, Refusal};
+use crate::findings::Findings;
 use framehop_check::prolog::check_prolog;
 use framehop_check::room::Room;
 use framehop_code::x86_64::CodeX86_64;
@@ -24,7 +30,9 @@ pub fn check_pe_file(
     path: &str,
     file: &[u8],
     options: Options,
-) -> Result<Checked, AllocError> {
+) -> Result<Checked, AllocError>
+    ensures { IfOk result (IsPeChecked path.now file.now options) }
+{
     match PeFile::read(alloc, file) {
         Ok(image) if !matches!(image.header().machine, Machine::X86_64) => {
             Ok(Checked::Refused(Refusal::PeMachine))
@@ -44,7 +52,9 @@ fn check_image(
     image: &PeFile<'_>,
     table: &[u8],
     options: Options,
-) -> Result<Checked, AllocError> {
+) -> Result<Checked, AllocError>
+    ensures { IfOk result (IsReported path.now (with_table image.now options table.now nothing_yet)) }
+{
     let mut findings = Findings::new(alloc, Room::new(0, 0));
     check_table(image, table, options, &mut findings)?;
     findings.into_checked(path)
@@ -56,25 +66,42 @@ fn check_table(
     table: &[u8],
     options: Options,
     findings: &mut Findings,
-) -> Result<(), AllocError> {
-    let mut rest = table;
-    for _count in 0..table.len() / ENTRY_SIZE {
-        if let Some(function) = RuntimeFunction::parse(rest) {
-            check_entry(image, function, options, findings)?;
-        }
-        rest = skip_bytes(rest, ENTRY_SIZE);
+) -> Result<(), AllocError>
+    ensures { OnOk result (found_view findings.new ≡ with_table image.now options table.now (found_view findings.old)) }
+{
+    for number in 0..table.len() / ENTRY_SIZE {
+        let entry = skip_bytes(table, ENTRY_SIZE * number);
+        check_found(image, RuntimeFunction::parse(entry), options, findings)?;
     }
     Ok(())
 }
 
+/// Checks an entry of the function table, if it is one.
+fn check_found(
+    image: &PeFile<'_>,
+    function: Option<RuntimeFunction>,
+    options: Options,
+    findings: &mut Findings,
+) -> Result<(), AllocError>
+    ensures { OnOk result (found_view findings.new ≡ with_found image.now options (found_view findings.old) function) }
+{
+    match function {
+        Some(function) => check_entry(image, function, options, findings),
+        None => Ok(()),
+    }
+}
+
 /// Checks an entry of the function table, and appends its lines.
+#[tactic(auto, unfolding(crate::specs::PeFindings::with_entry))]
 fn check_entry(
     image: &PeFile<'_>,
     function: RuntimeFunction,
     options: Options,
     findings: &mut Findings,
-) -> Result<(), AllocError> {
-    let Some(info) = info_at(image, function.unwind_info_address) else {
+) -> Result<(), AllocError>
+    ensures { OnOk result (found_view findings.new ≡ with_entry image.now options (found_view findings.old) function) }
+{
+    let Some(info) = prolog_at(image, function.unwind_info_address) else {
         findings.others.unreadable = findings.others.unreadable.saturating_add(1);
         return Ok(());
     };
@@ -82,57 +109,67 @@ fn check_entry(
         findings.others.without_code = findings.others.without_code.saturating_add(1);
         return Ok(());
     };
-    let begin = image
-        .header()
-        .image_base
-        .saturating_add(u64::from(function.begin_address));
-    findings.report.alarms.clear();
-    findings.report.notes.clear();
-    check_prolog(begin, &info, code, &mut findings.report)?;
-    if options.is_quiet {
-        return Ok(());
-    }
-    push_lines(begin, code, options, findings)
+    check_code(begin_of(image, function), &info, code, options, findings)
 }
 
-/// Appends the lines of the function that was checked last.
-fn push_lines(
+/// Checks a function's prolog against its code, and appends its lines.
+#[tactic(auto, unfolding(crate::specs::PeFindings::with_prolog))]
+fn check_code(
     begin: u64,
+    info: &PrologInfo<'_>,
     code: &[u8],
     options: Options,
     findings: &mut Findings,
-) -> Result<(), AllocError> {
-    for alarm in findings.report.alarms.iter() {
-        push_alarm::<CodeX86_64>(None, begin, code, *alarm, &mut findings.text)?;
+) -> Result<(), AllocError>
+    ensures { OnOk result (found_view findings.new ≡ with_prolog options begin (read_by info.now) code.now (found_view findings.old)) }
+{
+    findings.report.alarms.clear();
+    findings.report.notes.clear();
+    check_prolog(begin, info, code, &mut findings.report)?;
+    if options.is_quiet {
+        return Ok(());
     }
-    if options.has_notes {
-        for address in findings.report.notes.iter() {
-            push_note(None, begin, *address, &mut findings.text)?;
-        }
-    }
-    Ok(())
+    findings.push_lines::<CodeX86_64>(None, begin, code, options)
+}
+
+/// Returns the first address of a function (SVMA).
+fn begin_of(image: &PeFile<'_>, function: RuntimeFunction) -> u64
+    ensures { result ≡ begin_of image.now function }
+{
+    image
+        .header()
+        .image_base
+        .saturating_add(u64::from(function.begin_address))
 }
 
 /// Returns the unwind info at an RVA: its header, its codes, and the entry that it is chained to.
-fn info_at<'a>(image: &PeFile<'a>, rva: u32) -> Option<PrologInfo<'a>> {
-    let head = UnwindInfo::parse(bytes_at(image, rva, HEADER_SIZE)?)?;
+#[tactic(auto, unfolding(crate::specs::PeFindings::prolog_at))]
+fn prolog_at<'a>(image: &PeFile<'a>, rva: u32) -> Option<PrologInfo<'a>>
+    ensures { option_map read_by result ≡ prolog_at image.entry.now rva }
+{
+    let head = UnwindInfo::parse(bytes_if(image, rva, HEADER_SIZE)?)?;
     let slots = u32::from(head.code_count) + u32::from(head.code_count % 2);
     let chained = if head.is_chained {
         ENTRY_SIZE as u32
     } else {
         0
     };
-    UnwindInfo::parse(bytes_at(image, rva, HEADER_SIZE + 2 * slots + chained)?)?.read()
+    UnwindInfo::parse(bytes_if(image, rva, HEADER_SIZE + 2 * slots + chained)?)?.read()
 }
 
 /// Returns the code of a function.
-fn code_of<'a>(image: &PeFile<'a>, function: RuntimeFunction) -> Option<&'a [u8]> {
+#[tactic(auto, unfolding(crate::specs::PeFindings::code_of))]
+fn code_of<'a>(image: &PeFile<'a>, function: RuntimeFunction) -> Option<&'a [u8]>
+    ensures { option_map (λ code. code.now) result ≡ code_of image.entry.now function }
+{
     let size = function.end_address.checked_sub(function.begin_address)?;
-    bytes_at(image, function.begin_address, size)
+    bytes_if(image, function.begin_address, size)
 }
 
 /// Returns so many bytes of the image from an RVA on, if the file has them.
-fn bytes_at<'a>(image: &PeFile<'a>, rva: u32, size: u32) -> Option<&'a [u8]> {
+fn bytes_if<'a>(image: &PeFile<'a>, rva: u32, size: u32) -> Option<&'a [u8]>
+    ensures { option_map (λ bytes. bytes.now) result ≡ bytes_if image.entry.now rva size }
+{
     match read_at_rva(image, rva, size) {
         Ok(bytes) => Some(bytes),
         Err(_) => None,

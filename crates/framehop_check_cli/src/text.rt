@@ -3,7 +3,7 @@ ghost use Rattle.std.specs.Prelude.{◌≡◌, ◌++◌, ◌-◌, ◌∷◌, [],
 ghost use Rattle.std.specs.List.{flat_map};
 ghost use Rattle.framehop_check_cli.specs.Text.{text_of, signed_text, owner_text, place_text, cfa_text, claim_text, claims_text, lost_text, overwritten_text, target_text, jumps_text, fault_text, size_or_one, byte_digits, before_text, alarm_text, note_text, offset_text, function_text, range_text, missing_text, count_text, share_text, parts_text, shares_text, counts_text, rows_text, others_text, summary_text};
 
-use crate::file::Others;
+use crate::findings::Others;
 use crate::missing::Sizes;
 use framehop_bytes::bytes::{back, front};
 use framehop_check::missing::{Range, share};

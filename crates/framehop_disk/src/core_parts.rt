@@ -1,6 +1,15 @@
 //! Core files of which only parts are read: the headers and the notes, and of memory what is asked for.
+ghost use Rattle.std.specs.Prelude.{◌≡◌, IfOk, IfSome, MatchOption, true};
+ghost use Rattle.std.specs.List.{list_any};
+ghost use Rattle.std.specs.List.Sorted.{IsNonDecreasingBy};
+ghost use Rattle.framehop_disk.specs.CoreParts.{AreApart, AreBesideFiles, AreMapped, AreSegments, HasNone, HasNotes, IsOfCore, headers_end, most_rounds};
+ghost use Rattle.framehop_disk.specs.Segments.{is_cut_off};
+ghost use Rattle.framehop_disk.specs.Wanted.{has_new, parts_from, start_of, wanting_all};
+
 use crate::input::{read_at, read_front, zeros};
 use crate::object_parts::write_u64;
+use crate::segments::{LoadedSegment, are_apart, is_cut_off, segments_in, wanted_beside};
+use crate::wanted::{WantedSegment, want, wanted_parts, wanted_size};
 use framehop_coredump::core_file::read_core_file;
 use framehop_coredump::mapped_file::{MappedFile, read_mapped_files};
 use framehop_coredump::note::read_notes;
@@ -8,7 +17,6 @@ use framehop_elf::header::{HEADER_SIZE, read_file_header};
 use framehop_elf::program_header::{ENTRY_SIZE as PROGRAM_HEADER_SIZE, PT_NOTE, ProgramHeader};
 use framehop_elf::segment::loaded_segments;
 use framehop_memory::left_out::ReadPart;
-use framehop_memory::memory::MemoryRange;
 use framehop_memory::segment::Segment;
 use std::alloc::{AllocError, Global};
 use std::fs::File;
@@ -20,18 +28,6 @@ const LARGEST_FRONT: u64 = 0x400_0000;
 /// The offset of `p_offset` in a program header, in bytes.
 const P_OFFSET: u64 = 8;
 
-/// How many bytes before an address that is asked for are read with it: a walk may ask for what lies below it.
-const MARGIN: u64 = 0x1_0000;
-
-/// The size, in bytes, from which on a segment of code that no file has is read in pieces, as that of a JIT compiler: 16 MiB.
-const LARGE_CODE: u64 = 0x100_0000;
-
-/// The size of a piece in bytes, without what it shares with the next one: 1 MiB.
-const PIECE: u64 = 0x10_0000;
-
-/// How many bytes a piece shares with the next one. A read of code is shorter, so each has a piece with all of its bytes.
-const SHARED: u64 = 0x1_0000;
-
 /// The size of a core file, in bytes, up to which it is small: 16 MiB.
 const SMALL_FILE: u64 = 0x100_0000;
 
@@ -41,9 +37,6 @@ const ROUNDS_OF_SMALL_FILE: u32 = 3;
 
 /// How often more of another core file is read before it is read whole.
 const MOST_ROUNDS: u32 = 16;
-
-/// The first address (AVMA) that is the kernel's.
-const FIRST_OF_KERNEL: u64 = 0x8000_0000_0000_0000;
 
 /// A core file of which parts are read.
 #[derive(Drop)]
@@ -55,24 +48,7 @@ pub struct CoreParts {
     front: Vec<u8>,
     /// The memory that the file has, in the order of addresses. Two share bytes only where they are pieces of one segment.
     segments: Vec<WantedSegment>,
-}
-
-/// A segment of memory, of which an end is read.
-#[derive(Clone, Copy)]
-struct WantedSegment {
-    /// Where the file has it.
-    range: MemoryRange,
-    /// The size of the end that is read, in bytes.
-    wanted: u64,
-}
-
-/// A segment of memory that a core file has.
-#[derive(Clone, Copy)]
-struct LoadedSegment {
-    /// Where the file has it.
-    range: MemoryRange,
-    /// It may be executed.
-    is_code: bool,
+    ghost ordered: { IsNonDecreasingBy start_of segments.items },
 }
 
 /// What was read of the memory of a core file.
@@ -121,12 +97,16 @@ impl CoreParts {
     }
 
     /// Returns the headers of the file, and then its notes, as a file of their own.
-    pub fn front(&self) -> &[u8] {
+    pub fn front(&self) -> &[u8]
+        ensures { result.now ≡ self.entry.now.front.items }
+    {
         self.front.as_slice()
     }
 
     /// Returns how often more of the file is read before it is read whole.
-    pub fn most_rounds(&self) -> u32 {
+    pub fn most_rounds(&self) -> u32
+        ensures { result ≡ most_rounds self.now.size }
+    {
         if self.size <= SMALL_FILE {
             ROUNDS_OF_SMALL_FILE
         } else {
@@ -135,39 +115,24 @@ impl CoreParts {
     }
 
     /// Reads the memory that is wanted. `None` where it has more bytes than the file, since segments share some.
-    pub fn read_memory(&mut self, alloc: Global) -> io::Result<Option<ReadMemory>> {
-        let size = self.wanted_size();
+    pub fn read_memory(&mut self, alloc: Global) -> io::Result<Option<ReadMemory>>
+        ensures parts { IfOk result (λ read. IfSome read (λ memory. memory.parts.items ≡ parts_from 0 self.old.segments.items)) }
+        ensures kept { self.new.segments ≡ self.old.segments }
+    {
+        let size = wanted_size(self.segments.as_slice());
         if size > self.size {
             return Ok(None);
         }
         Ok(Some(ReadMemory {
             bytes: self.read_bytes(alloc, size)?,
-            parts: self.wanted_parts(alloc)?,
+            parts: wanted_parts(alloc, self.segments.as_slice())?,
         }))
     }
 
-    /// Returns how many bytes of memory are wanted.
-    fn wanted_size(&self) -> u64 {
-        let mut size: u64 = 0;
-        for segment in &self.segments {
-            size = size.saturating_add(segment.wanted);
-        }
-        size
-    }
-
-    /// Returns the parts of segments that are wanted, each with its bytes after those of the one before.
-    fn wanted_parts(&self, alloc: Global) -> Result<Vec<ReadPart>, AllocError> {
-        let mut offset: u64 = 0;
-        let mut parts = Vec::with_capacity(alloc, self.segments.len())?;
-        for segment in &self.segments {
-            parts.push(segment.read_part(offset))?;
-            offset = offset.saturating_add(segment.wanted);
-        }
-        Ok(parts)
-    }
-
     /// Reads the bytes that are wanted, of which there are so many.
-    fn read_bytes(&mut self, alloc: Global, size: u64) -> io::Result<Vec<u8>> {
+    fn read_bytes(&mut self, alloc: Global, size: u64) -> io::Result<Vec<u8>>
+        ensures kept { self.new.segments ≡ self.old.segments }
+    {
         let mut bytes = zeros(alloc, size as usize)?;
         let mut rest = bytes.as_mut_slice();
         for segment in &self.segments {
@@ -179,54 +144,14 @@ impl CoreParts {
 
     /// Wants memory from addresses (AVMAs) on, each up to the end of its segment. Returns whether some of it was not wanted
     /// before.
-    pub fn want(&mut self, addresses: &[u64]) -> bool {
+    pub fn want(&mut self, addresses: &[u64]) -> bool
+        ensures new { result ≡ has_new addresses.now self.old.segments.items }
+        ensures wanted { self.new.segments.items ≡ wanting_all addresses.now self.old.segments.items }
+    {
         let mut is_new = false;
         for address in addresses {
-            let later = self
-                .segments
-                .partition_point(|segment| segment.range.start <= *address);
-            if let Some(segment) = self.segments.get_mut(later.saturating_sub(1)) {
-                is_new = segment.want(*address) || is_new;
-            }
-        }
-        is_new
-    }
-}
-
-impl WantedSegment {
-    /// Returns where the file has the end that is read.
-    fn wanted_offset(&self) -> u64 {
-        self.range.offset.saturating_add(self.unwanted())
-    }
-
-    /// Returns how many bytes are not read, before those that are.
-    fn unwanted(&self) -> u64 {
-        self.range.size.saturating_sub(self.wanted)
-    }
-
-    /// Returns what is read of this segment, with its bytes at an offset.
-    fn read_part(&self, offset: u64) -> ReadPart {
-        ReadPart {
-            segment: self.range,
-            read: MemoryRange {
-                start: self.range.start.saturating_add(self.unwanted()),
-                size: self.wanted,
-                offset,
-            },
-        }
-    }
-
-    /// Wants the memory from an address (AVMA) on, if it is in this segment. Returns whether it was not wanted before.
-    fn want(&mut self, address: u64) -> bool {
-        let Some(before) = address.checked_sub(self.range.start) else {
-            return false;
-        };
-        let is_new = before < self.unwanted();
-        if is_new {
-            self.wanted = self
-                .range
-                .size
-                .saturating_sub(before.saturating_sub(MARGIN));
+            let wanted = want(self.segments.as_mut_slice(), *address);
+            is_new = is_new || wanted;
         }
         is_new
     }
@@ -257,7 +182,9 @@ fn read_headers_end(alloc: Global, file: &mut File, most: u64) -> io::Result<Opt
 }
 
 /// Returns the program headers of a core file.
-fn headers_in(alloc: Global, front: &[u8]) -> Option<Vec<ProgramHeader>> {
+fn headers_in(alloc: Global, front: &[u8]) -> Option<Vec<ProgramHeader>>
+    ensures { IfSome result (λ headers. IsOfCore front.now headers.items) }
+{
     match read_core_file(alloc, front) {
         Ok(core) => Some(core.segments),
         Err(_) => None,
@@ -270,7 +197,9 @@ fn wanted_segments(
     alloc: Global,
     front: &Front,
     size: u64,
-) -> Result<Option<Vec<WantedSegment>>, AllocError> {
+) -> Result<Option<Vec<WantedSegment>>, AllocError>
+    ensures { IfOk result (λ found. IfSome found (λ segments. AreApart front.now.bytes.items front.now.headers.items size segments.items)) }
+{
     match segments_of(alloc, front.headers.as_slice(), size)? {
         Some(loaded) => in_pieces(alloc, front.bytes.as_slice(), loaded.as_slice()),
         None => Ok(None),
@@ -278,7 +207,9 @@ fn wanted_segments(
 }
 
 /// Returns where the program headers of a core file end, if they are in its first bytes, of which there are at most so many.
-fn headers_end(header: &[u8], most: u64) -> Option<u64> {
+fn headers_end(header: &[u8], most: u64) -> Option<u64>
+    ensures { result ≡ headers_end most header.now }
+{
     let header = read_file_header(header).ok()?;
     let size = PROGRAM_HEADER_SIZE as u64 * u64::from(header.e_phnum);
     let end = header.e_phoff.checked_add(size)?;
@@ -320,7 +251,9 @@ fn add_note(
     most: u64,
     place: u64,
     front: &mut Vec<u8>,
-) -> io::Result<bool> {
+) -> io::Result<bool>
+    ensures { IfOk result (λ is. is ≡ true → HasNotes front.old.items place header.now.p_filesz front.new.items) }
+{
     let start = front.len() as u64;
     let end = header.p_offset.checked_add(header.p_filesz);
     if end.is_none() || start.saturating_add(header.p_filesz) > most {
@@ -340,61 +273,22 @@ fn in_pieces(
     alloc: Global,
     front: &[u8],
     loaded: &[LoadedSegment],
-) -> Result<Option<Vec<WantedSegment>>, AllocError> {
+) -> Result<Option<Vec<WantedSegment>>, AllocError>
+    ensures { IfOk result (λ found. IfSome found (λ segments. AreBesideFiles front.now loaded.now segments.items)) }
+{
     match mapped_files(alloc, front) {
-        Some(mapped) => Ok(Some(pieces_beside(alloc, loaded, mapped.as_slice())?)),
+        Some(mapped) => Ok(Some(wanted_beside(alloc, loaded, mapped.as_slice())?)),
         None => Ok(None),
     }
 }
 
-/// Returns the segments that are read apart, by the files that were mapped.
-fn pieces_beside(
-    alloc: Global,
-    loaded: &[LoadedSegment],
-    mapped: &[MappedFile<'_>],
-) -> Result<Vec<WantedSegment>, AllocError> {
-    let mut segments = Vec::with_capacity(alloc, loaded.len())?;
-    for segment in loaded {
-        let is_cut = segment.is_code && segment.range.size > LARGE_CODE;
-        if is_cut && !mapped.iter().any(|file| has_file(segment.range, file)) {
-            push_pieces(&mut segments, segment.range)?;
-        } else {
-            push_wanted(&mut segments, segment.range)?;
-        }
-    }
-    Ok(segments)
-}
-
 /// Returns the files that were mapped, by the front of a core file.
-fn mapped_files(alloc: Global, front: &[u8]) -> Option<Vec<MappedFile<'_>>> {
+fn mapped_files(alloc: Global, front: &[u8]) -> Option<Vec<MappedFile<'_>>>
+    ensures { IfSome result (λ files. AreMapped front.entry.now files.items) }
+{
     let core = read_core_file(alloc, front).ok()?;
     let notes = read_notes(alloc, front, core.segments.as_slice()).ok()?;
     read_mapped_files(alloc, notes.as_slice()).ok()
-}
-
-/// Returns whether a file was mapped at an address of a range.
-fn has_file(range: MemoryRange, file: &MappedFile<'_>) -> bool {
-    file.start < range.start.saturating_add(range.size) && range.start < file.end
-}
-
-/// Appends the pieces of a range, of which nothing is wanted.
-fn push_pieces(segments: &mut Vec<WantedSegment>, range: MemoryRange) -> Result<(), AllocError> {
-    for number in 0..range.size.div_ceil(PIECE) {
-        let before = number.saturating_mul(PIECE);
-        let piece = MemoryRange {
-            start: range.start.saturating_add(before),
-            size: range.size.saturating_sub(before).min(PIECE + SHARED),
-            offset: range.offset.saturating_add(before),
-        };
-        push_wanted(segments, piece)?;
-    }
-    Ok(())
-}
-
-/// Appends a range, of which nothing is wanted.
-fn push_wanted(segments: &mut Vec<WantedSegment>, range: MemoryRange) -> Result<(), AllocError> {
-    segments.push(WantedSegment { range, wanted: 0 })?;
-    Ok(())
 }
 
 /// Returns the segments of memory that a file of a size has, in the order of their addresses; `None` where they overlap, or do
@@ -403,9 +297,11 @@ fn segments_of(
     alloc: Global,
     headers: &[ProgramHeader],
     size: u64,
-) -> Result<Option<Vec<LoadedSegment>>, AllocError> {
+) -> Result<Option<Vec<LoadedSegment>>, AllocError>
+    ensures { IfOk result (λ found. MatchOption found (HasNone size headers.now) (λ segments. AreSegments size headers.now segments.items)) }
+{
     let loaded = loaded_segments(alloc, headers)?;
-    if loaded.iter().any(|segment| is_cut_off(segment, size)) {
+    if lacks_some(loaded.as_slice(), size) {
         return Ok(None);
     }
     let segments = segments_in(alloc, loaded.as_slice(), size)?;
@@ -416,46 +312,9 @@ fn segments_of(
     }
 }
 
-/// Returns whether a file of a size lacks some of a segment that is not the kernel's.
-fn is_cut_off(loaded: &Segment, size: u64) -> bool {
-    let end = loaded.offset.saturating_add(loaded.file_size);
-    end > size && loaded.address < FIRST_OF_KERNEL
-}
-
-/// Returns the segments of memory of which a file of a size has something, in the order of their addresses.
-fn segments_in(
-    alloc: Global,
-    loaded: &[Segment],
-    size: u64,
-) -> Result<Vec<LoadedSegment>, AllocError> {
-    let mut segments = Vec::new(alloc);
-    for loaded in loaded {
-        let has = size.saturating_sub(loaded.offset).min(loaded.file_size);
-        if has > 0 {
-            let range = MemoryRange {
-                start: loaded.address,
-                size: has,
-                offset: loaded.offset,
-            };
-            let is_code = loaded.is_code;
-            segments.push(LoadedSegment { range, is_code })?;
-        }
-    }
-    segments.sort_by_key(|segment| segment.range.start)?;
-    Ok(segments)
-}
-
-/// Returns whether each segment ends before the next one begins.
-fn are_apart(segments: &[LoadedSegment]) -> bool {
-    let mut end: u64 = 0;
-    for segment in segments {
-        let Some(next) = segment.range.start.checked_add(segment.range.size) else {
-            return false;
-        };
-        if segment.range.start < end {
-            return false;
-        }
-        end = next;
-    }
-    true
+/// Returns whether a file of a size lacks some of a segment.
+fn lacks_some(loaded: &[Segment], size: u64) -> bool
+    ensures { result ≡ list_any (is_cut_off size) loaded.now }
+{
+    loaded.iter().any(|segment| is_cut_off(segment, size))
 }

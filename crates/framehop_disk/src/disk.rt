@@ -1,14 +1,17 @@
 //! The files of a disk that processes map.
+ghost use Rattle.std.specs.Prelude.{◌≡◌, IfOk, MatchResult, Some, None, nat_lt, option_map, if◌then◌else◌};
+ghost use Rattle.std.specs.IoError.{error_kind};
+ghost use Rattle.framehop_disk.specs.Disk.{is_number, is_of_kernel, is_program, is_same, is_wanted, is_whole, map_refusal, rank, refusal_by, regular_refusal, worth_of};
+
 use crate::input::read_sized;
 use crate::known_names::KnownNames;
 use crate::messages::say_of;
 use crate::object_parts::read_object;
-use crate::paths::{
-    build_id_path, file_name_of, folder_of, is_below, is_file_name, path_below_root, path_in_root,
-};
+use crate::paths::{file_name_of, folder_of, is_below, is_file_name};
+use crate::places::{Place, copied_paths, debug_paths, linked_places, mapped_places};
 use crate::read_paths::ReadPaths;
 use framehop_frames::json_files::FilePaths;
-use framehop_symbols::files::{FileSource, Files, is_vdso, is_windows_path};
+use framehop_symbols::files::{FileSource, Files, is_vdso};
 use framehop_symbols::made_up_id::is_made_up;
 use framehop_symbols::object_file::build_id_of;
 use framehop_symbols::read_refusal::ReadRefusal;
@@ -20,17 +23,11 @@ use std::os::unix::fs::MetadataExt;
 use std::path::PathBuf;
 use std::{fs, io};
 
-/// The folders of files that the kernel makes up: to read one may block, end nowhere, or change something.
-const MADE_UP: [&str; 3] = ["/proc", "/sys", "/dev"];
-
 /// The size of the largest file that is read for its unwind data and names, in bytes: 4 GiB.
 const LARGEST_FILE: u64 = 0x1_0000_0000;
 
 /// The size of the largest map of a JIT compiler that is read, in bytes: 256 MiB.
 const LARGEST_MAP: u64 = 0x1000_0000;
-
-/// The folder below which systems keep debug files.
-const DEBUG_DIR: &str = "/usr/lib/debug";
 
 /// The main program, where its file is named.
 #[derive(Drop)]
@@ -72,6 +69,26 @@ struct ReadFile {
 /// A file that was read, or why it was not.
 type Read = Result<ReadFile, ReadRefusal>;
 
+/// What it is worth that was read of a file in a root, the least first.
+#[derive(Clone, Copy, PartialEq, Eq)]
+enum Worth {
+    /// There is no file.
+    Nothing,
+    /// The file is not read.
+    Refused,
+    /// It is another file than the wanted one.
+    Other,
+    /// It is the wanted file.
+    Wanted,
+}
+
+/// What was read of a file in a root, and what that is worth.
+#[derive(Drop)]
+struct Candidate {
+    worth: Worth,
+    read: Read,
+}
+
 impl FileSource for Disk<'_, '_> {
     // what a disk gives is not known
     ghost source = { λ disk. record {
@@ -100,10 +117,15 @@ impl FileSource for Disk<'_, '_> {
     }
 
     fn read_copied_file(&self, build_id: &[u8]) -> Result<Option<Vec<u8>>, AllocError> {
-        match self.copies_of(build_id)? {
-            Some(folder) => self.read_copy(folder.as_str()),
-            None => Ok(None),
+        let paths = self.copies_of(build_id)?;
+        for path in &paths {
+            if let Ok(read) = read_regular(self.rt, path.as_str())? {
+                self.read_paths
+                    .note_copy(self.rt.alloc(), read.path.as_str())?;
+                return Ok(Some(read.bytes));
+            }
         }
+        Ok(None)
     }
 
     fn read_debug_file(
@@ -170,59 +192,46 @@ impl Disk<'_, '_> {
 
     /// Reads a file below the first root that has one with the wanted build id, or else below the first that has one.
     fn read_below_roots(&self, path: &str, build_id: &[u8]) -> Result<Read, AllocError> {
-        let mut first = Err(ReadRefusal::NotThere);
+        let mut best = Candidate {
+            worth: Worth::Nothing,
+            read: Err(ReadRefusal::NotThere),
+        };
         for root in self.roots {
-            match self.read_and_judge(root, path, build_id)? {
-                Ok((read, true)) => return Ok(Ok(read)),
-                Ok((read, false)) if first.is_err() => first = Ok(read),
-                Err(refusal) if is_not_there(&first) => first = Err(refusal),
-                _ => {}
+            let places = mapped_places(self.rt.alloc(), root, path)?;
+            let next = self.find_first(places.as_slice(), build_id)?;
+            best = better(best, next);
+            if best.worth == Worth::Wanted {
+                break;
             }
         }
-        Ok(first)
+        Ok(best.read)
     }
 
-    /// Reads a file below a root, and returns with it whether it has the wanted build id.
-    fn read_and_judge(
-        &self,
-        root: &str,
-        path: &str,
-        build_id: &[u8],
-    ) -> Result<Result<(ReadFile, bool), ReadRefusal>, AllocError> {
-        match self.read_below(root, path)? {
-            Ok(read) => {
-                let is_wanted = is_wanted(self.rt.alloc(), read.bytes.as_slice(), build_id)?;
-                Ok(Ok((read, is_wanted)))
+    /// Reads the file in the first of these places in which one may be read, or else tells why that in the last may not.
+    fn find_first(&self, places: &[Place<'_>], build_id: &[u8]) -> Result<Candidate, AllocError> {
+        let mut read = Err(ReadRefusal::NotThere);
+        for place in places {
+            read = self.read_mapped(place)?;
+            if read.is_ok() {
+                break;
             }
-            Err(refusal) => Ok(Err(refusal)),
         }
-    }
-
-    /// Reads a file below a root: one of Windows by its path after the drive, or else by its name in the root.
-    fn read_below(&self, root: &str, path: &str) -> Result<Read, AllocError> {
-        let alloc = self.rt.alloc();
-        if !is_windows_path(path.as_bytes()) {
-            let path = format!(in alloc; "{root}{path}")?;
-            return self.read_mapped(root, path.as_str());
-        }
-        let below = path_below_root(alloc, root, path)?;
-        match self.read_mapped(root, below.as_str())? {
-            Ok(read) => Ok(Ok(read)),
-            Err(_) => self.read_inside(root, path),
-        }
-    }
-
-    /// Reads the file of a path of Windows by its name in a root.
-    fn read_inside(&self, root: &str, path: &str) -> Result<Read, AllocError> {
-        let path = path_in_root(self.rt.alloc(), root, path)?;
-        self.read_mapped(root, path.as_str())
+        let is_wanted = match &read {
+            Ok(file) => is_wanted(self.rt.alloc(), file.bytes.as_slice(), build_id)?,
+            Err(_) => false,
+        };
+        Ok(Candidate {
+            worth: worth_of(&read, is_wanted),
+            read,
+        })
     }
 
     /// Reads a file that was mapped, by the path to which links and `..` lead: below the root, if one is named, and else in
     /// none of the folders of files that the kernel makes up. One that was read by many other names is not read.
-    fn read_mapped(&self, root: &str, path: &str) -> Result<Read, AllocError> {
+    fn read_mapped(&self, place: &Place<'_>) -> Result<Read, AllocError> {
+        let path = place.path();
         match found(self.rt, path, fs::canonicalize(self.rt, path))? {
-            Ok(real) => self.read_real(root, path, real.as_str()),
+            Ok(real) => self.read_real(place.root(), path, real.as_str()),
             Err(refusal) => Ok(Err(refusal)),
         }
     }
@@ -244,49 +253,22 @@ impl Disk<'_, '_> {
 
     /// Returns whether the file of a path without links may be read.
     fn is_allowed(&self, root: &str, path: &str) -> Result<bool, AllocError> {
-        if root.is_empty() || root == "/" {
-            return Ok(!MADE_UP.iter().any(|folder| is_below(path, folder)));
+        if is_whole(root.as_bytes()) {
+            return Ok(!is_of_kernel(path.as_bytes()));
         }
         match known(fs::canonicalize(self.rt, root))? {
-            Some(root) => Ok(is_below(path, root.as_str())),
+            Some(root) => Ok(is_below(path.as_bytes(), root.as_str().as_bytes())),
             None => Ok(false),
         }
     }
 
-    /// Returns the folder in which perf keeps the copy of the file of a build id, if one is known.
-    fn copies_of(&self, build_id: &[u8]) -> Result<Option<String>, AllocError> {
-        let alloc = self.rt.alloc();
-        match (self.buildid_dir, &self.home) {
-            (Some(folder), _) => Ok(Some(build_id_path(alloc, folder, build_id)?)),
-            (None, Some(home)) => {
-                let folder = format!(in alloc; "{}/.debug", home.as_str())?;
-                Ok(Some(build_id_path(alloc, folder.as_str(), build_id)?))
-            }
-            (None, None) => Ok(None),
-        }
-    }
-
-    /// Reads the copy that is in a folder.
-    fn read_copy(&self, folder: &str) -> Result<Option<Vec<u8>>, AllocError> {
-        for name in ["elf", "vdso"] {
-            if let Some(bytes) = self.read_copy_of(folder, name)? {
-                return Ok(Some(bytes));
-            }
-        }
-        Ok(None)
-    }
-
-    /// Reads the copy of a name that is in a folder.
-    fn read_copy_of(&self, folder: &str, name: &str) -> Result<Option<Vec<u8>>, AllocError> {
-        let alloc = self.rt.alloc();
-        let path = format!(in alloc; "{folder}/{name}")?;
-        match read_regular(self.rt, path.as_str())? {
-            Ok(read) => {
-                self.read_paths.note_copy(alloc, read.path.as_str())?;
-                Ok(Some(read.bytes))
-            }
-            Err(_) => Ok(None),
-        }
+    /// Returns where perf keeps the copy of the file of a build id.
+    fn copies_of(&self, build_id: &[u8]) -> Result<Vec<String>, AllocError> {
+        let home = match &self.home {
+            Some(home) => Some(home.as_str()),
+            None => None,
+        };
+        copied_paths(self.rt.alloc(), self.buildid_dir, home, build_id)
     }
 
     /// Reads the debug file of a file by its build id, or else by its link.
@@ -299,7 +281,7 @@ impl Disk<'_, '_> {
         match self.read_debug_file_of(build_id)? {
             Some(read) => Ok(Some(read)),
             None => match (std::str::from_utf8(name), std::str::from_utf8(link)) {
-                (Ok(path), Ok(link)) if is_file_name(link) => {
+                (Ok(path), Ok(link)) if is_file_name(link.as_bytes()) => {
                     self.read_linked(folder_of(path), build_id, link)
                 }
                 _ => Ok(None),
@@ -309,64 +291,33 @@ impl Disk<'_, '_> {
 
     /// Reads the debug file of a build id below the first folder that has it.
     fn read_debug_file_of(&self, build_id: &[u8]) -> Result<Option<ReadFile>, AllocError> {
-        for folder in self.debug_dirs.iter().chain(&[DEBUG_DIR]) {
-            if let Some(read) = self.read_debug_file_below(folder, build_id)? {
+        let paths = debug_paths(self.rt.alloc(), self.debug_dirs, build_id)?;
+        for path in &paths {
+            if let Ok(read) = read_regular(self.rt, path.as_str())? {
                 return Ok(Some(read));
             }
         }
         Ok(None)
     }
 
-    /// Reads the debug file of a build id below a folder.
-    fn read_debug_file_below(
-        &self,
-        folder: &str,
-        build_id: &[u8],
-    ) -> Result<Option<ReadFile>, AllocError> {
-        let mut path = build_id_path(self.rt.alloc(), folder, build_id)?;
-        path.push_str(".debug")?;
-        Ok(read_regular(self.rt, path.as_str())?.ok())
-    }
-
-    /// Reads the debug file of a build id by its name, where GDB looks for it: in the folder of the file that names it, in
-    /// the folder `.debug` there, and in the same folder below those of debug files.
+    /// Reads the debug file of a build id by its name, in the first of its places that has it.
     fn read_linked(
         &self,
         folder: &str,
         build_id: &[u8],
         link: &str,
     ) -> Result<Option<ReadFile>, AllocError> {
-        for root in self.roots {
-            for inside in ["/", "/.debug/"] {
-                if let Some(read) = self.read_linked_at(root, folder, inside, build_id, link)? {
+        let alloc = self.rt.alloc();
+        let places = linked_places(alloc, self.roots, self.debug_dirs, folder, link)?;
+        for place in &places {
+            match self.read_mapped(place)? {
+                Ok(read) if is_wanted(alloc, read.bytes.as_slice(), build_id)? => {
                     return Ok(Some(read));
                 }
-            }
-        }
-        for root in self.debug_dirs.iter().chain(&[DEBUG_DIR]) {
-            if let Some(read) = self.read_linked_at(root, folder, "/", build_id, link)? {
-                return Ok(Some(read));
+                _ => {}
             }
         }
         Ok(None)
-    }
-
-    /// Reads the debug file of a build id inside a folder below a root, if the file there is that.
-    fn read_linked_at(
-        &self,
-        root: &str,
-        folder: &str,
-        inside: &str,
-        build_id: &[u8],
-        link: &str,
-    ) -> Result<Option<ReadFile>, AllocError> {
-        let path = format!(in self.rt.alloc(); "{root}{folder}{inside}{link}")?;
-        match self.read_mapped(root, path.as_str())? {
-            Ok(read) if is_wanted(self.rt.alloc(), read.bytes.as_slice(), build_id)? => {
-                Ok(Some(read))
-            }
-            _ => Ok(None),
-        }
     }
 
     /// Notes where a debug file was read, if it has the wanted build id.
@@ -381,33 +332,113 @@ impl Disk<'_, '_> {
 
 impl Program<'_> {
     /// Returns whether it is the file of a name: by its build id or, where none is wanted, by its name.
-    fn is_of(&self, alloc: Global, name: &[u8], build_id: &[u8]) -> Result<bool, AllocError> {
+    fn is_of(&self, alloc: Global, name: &[u8], build_id: &[u8]) -> Result<bool, AllocError>
+        ensures { IfOk result (λ is. is ≡ is_program self.now.path.now self.now.bytes.items name.now build_id.now) }
+    {
         if build_id.is_empty() {
-            return Ok(file_name_of(name) == file_name_of(self.path.as_bytes()));
+            return Ok(is_same(file_name_of(name), file_name_of(self.path.as_bytes())));
         }
-        Ok(build_id_of(alloc, self.bytes.as_slice())? == build_id)
+        Ok(is_same(build_id_of(alloc, self.bytes.as_slice())?, build_id))
     }
 }
 
+/// Returns whether two texts are the same.
+fn is_same(a: &[u8], b: &[u8]) -> bool
+    ensures { result ≡ is_same a.now b.now }
+{
+    a == b
+}
+
+/// Returns the better of what two roots have: of two that are worth the same the first.
+fn better(first: Candidate, next: Candidate) -> Candidate
+    ensures { result ≡ (if nat_lt (rank first.worth) (rank next.worth) then next else first) }
+{
+    if rank_of(first.worth) < rank_of(next.worth) {
+        next
+    } else {
+        first
+    }
+}
+
+/// Returns the place of what something is worth, among all of that.
+fn rank_of(worth: Worth) -> u8
+    ensures { result ≡ rank worth }
+{
+    match worth {
+        Worth::Nothing => 0,
+        Worth::Refused => 1,
+        Worth::Other => 2,
+        Worth::Wanted => 3,
+    }
+}
+
+/// Returns what it is worth that was read, which is the wanted file or not.
+fn worth_of(read: &Read, is_wanted: bool) -> Worth
+    ensures { result ≡ worth_of read.now is_wanted }
+{
+    match read {
+        Ok(_) if is_wanted => Worth::Wanted,
+        Ok(_) => Worth::Other,
+        Err(ReadRefusal::NotThere) => Worth::Nothing,
+        Err(_) => Worth::Refused,
+    }
+}
+
+/// Returns whether a root leads to all files.
+fn is_whole(root: &[u8]) -> bool
+    ensures { result ≡ is_whole root.now }
+{
+    root.is_empty() || is_same(root, b"/")
+}
+
+/// Returns whether a file is in a folder of files that the kernel makes up: to read one may block, end nowhere, or change
+/// something.
+fn is_of_kernel(path: &[u8]) -> bool
+    ensures { result ≡ is_of_kernel path.now }
+{
+    is_below(path, b"/proc") || is_below(path, b"/sys") || is_below(path, b"/dev")
+}
+
 /// Returns whether a file has the wanted build id, if one is wanted.
-fn is_wanted(alloc: Global, file: &[u8], build_id: &[u8]) -> Result<bool, AllocError> {
+fn is_wanted(alloc: Global, file: &[u8], build_id: &[u8]) -> Result<bool, AllocError>
+    ensures { IfOk result (λ is. is ≡ is_wanted build_id.now file.now) }
+{
     let found = build_id_of(alloc, file)?;
-    Ok(build_id.is_empty() || found == build_id || (found.is_empty() && is_made_up(build_id, file)))
+    Ok(
+        build_id.is_empty()
+            || is_same(found, build_id)
+            || (found.is_empty() && is_made_up(build_id, file)),
+    )
 }
 
 /// Reads a regular file of at most 4 GiB, as [`read_object`] does: a recording may name a device or a pipe, whose bytes don't end. A file whose size
 /// is told as 0, as those that a kernel makes up when they are read, is not read.
 fn read_regular(rt: &HostRuntime, path: &str) -> Result<Read, AllocError> {
-    match found(rt, path, fs::metadata(rt, path))? {
-        Ok(metadata) if metadata.is_file() && metadata.len() > LARGEST_FILE => {
-            refuse_file(rt, path, "larger than 4 GiB, and not read")?;
-            Ok(Err(ReadRefusal::Refused))
+    let metadata = match found(rt, path, fs::metadata(rt, path))? {
+        Ok(metadata) => metadata,
+        Err(refusal) => return Ok(Err(refusal)),
+    };
+    match regular_refusal(metadata.is_file(), metadata.len()) {
+        Some(refusal) => {
+            if refusal == ReadRefusal::Refused {
+                refuse_file(rt, path, "larger than 4 GiB, and not read")?;
+            }
+            Ok(Err(refusal))
         }
-        Ok(metadata) if metadata.is_file() && metadata.len() != 0 => {
-            read_of_size(rt, path, metadata.len())
-        }
-        Ok(_) => Ok(Err(ReadRefusal::NotRegular)),
-        Err(refusal) => Ok(Err(refusal)),
+        None => read_of_size(rt, path, metadata.len()),
+    }
+}
+
+/// Returns why a file is not read, by whether it is a regular one, and its size.
+fn regular_refusal(is_file: bool, size: u64) -> Option<ReadRefusal>
+    ensures { result ≡ regular_refusal is_file size }
+{
+    if !is_file || size == 0 {
+        Some(ReadRefusal::NotRegular)
+    } else if size > LARGEST_FILE {
+        Some(ReadRefusal::Refused)
+    } else {
+        None
     }
 }
 
@@ -430,15 +461,37 @@ pub fn read_perf_map(rt: &HostRuntime, path: &str) -> Result<Option<Vec<u8>>, Al
         Err(error) if error.kind() == ErrorKind::NotFound => return Ok(None),
         Err(error) => return no_file(rt, path, error),
     };
-    if !metadata.is_file() || metadata.len() > LARGEST_MAP {
-        return no_file(rt, path, "no regular file of at most 256 MiB");
-    }
-    if metadata.uid() != 0 && Some(metadata.uid()) != user(rt) {
-        return no_file(rt, path, "not read, since it belongs to another user");
+    let (is_file, size) = (metadata.is_file(), metadata.len());
+    if let Some(why) = map_refusal(is_file, size, metadata.uid(), user(rt)) {
+        return no_file(rt, path, why);
     }
     match read_sized(rt, path, metadata.len()) {
         Err(error) if error.kind() != ErrorKind::OutOfMemory => no_file(rt, path, error),
         read => known(read),
+    }
+}
+
+/// Returns why a map is not read, by whether it is a regular file, its size, its owner, and the user who runs the program, if
+/// that is known.
+fn map_refusal(is_file: bool, size: u64, owner: u32, user: Option<u32>) -> Option<&'static str>
+    ensures { option_map (λ why. why.now) result ≡ map_refusal is_file size owner user }
+{
+    if !is_file || size > LARGEST_MAP {
+        Some("no regular file of at most 256 MiB")
+    } else if owner == 0 || is_number(owner, user) {
+        None
+    } else {
+        Some("not read, since it belongs to another user")
+    }
+}
+
+/// Returns whether a number is this one, if it is known.
+fn is_number(number: u32, known: Option<u32>) -> bool
+    ensures { result ≡ is_number number known }
+{
+    match known {
+        Some(other) => other == number,
+        None => false,
     }
 }
 
@@ -460,22 +513,24 @@ fn found<T: Drop>(
 ) -> Result<Result<T, ReadRefusal>, AllocError> {
     match given {
         Ok(given) => Ok(Ok(given)),
-        Err(error) => match error.kind() {
-            ErrorKind::OutOfMemory => Err(AllocError),
-            ErrorKind::NotFound | ErrorKind::NotADirectory => Ok(Err(ReadRefusal::NotThere)),
-            _ => {
+        Err(error) => {
+            let refusal = refusal_by(error.kind())?;
+            if refusal == ReadRefusal::Refused {
                 refuse_file(rt, path, error)?;
-                Ok(Err(ReadRefusal::Refused))
             }
-        },
+            Ok(Err(refusal))
+        }
     }
 }
 
-/// Returns whether there was no file.
-fn is_not_there(read: &Read) -> bool {
-    match read {
-        Err(refusal) => *refusal == ReadRefusal::NotThere,
-        Ok(_) => false,
+/// Returns why there is no file, by the kind of a system's error.
+fn refusal_by(kind: ErrorKind) -> Result<ReadRefusal, AllocError>
+    ensures { MatchResult result (λ refusal. refusal_by kind ≡ Some refusal) (λ error. refusal_by kind ≡ None) }
+{
+    match kind {
+        ErrorKind::OutOfMemory => Err(AllocError),
+        ErrorKind::NotFound | ErrorKind::NotADirectory => Ok(ReadRefusal::NotThere),
+        _ => Ok(ReadRefusal::Refused),
     }
 }
 

@@ -1,4 +1,9 @@
 //! The bytes of files and of standard input, and what they are.
+ghost use Rattle.std.specs.Prelude.{◌≡◌, ◌≢◌, ◌+◌, ◌++◌, IfOk, OnOk, drop, length, min, replicate};
+ghost use Rattle.std.specs.IoError.{error_kind};
+ghost use Rattle.std.specs.declared.io.ErrorKind.TheVariants.{OutOfMemory};
+ghost use Rattle.framehop_disk.specs.Inputs.{input_name, is_terminal_path, kind_of, kind_view};
+
 use crate::messages::say_of;
 use framehop_cli::Result;
 use framehop_folded::text::is_text;
@@ -31,7 +36,9 @@ pub enum Kind {
 }
 
 /// Returns what a file is, by its first bytes.
-pub fn kind_of(bytes: &[u8]) -> Kind {
+pub fn kind_of(bytes: &[u8]) -> Kind
+    ensures { kind_view result ≡ kind_of bytes.now }
+{
     if bytes.starts_with(b"\x7fELF") {
         Kind::Core
     } else if bytes.starts_with(b"MDMP") {
@@ -83,7 +90,10 @@ fn read_regular_or_standard(rt: &HostRuntime, path: &str) -> io::Result<Option<V
 }
 
 /// Returns the status for an error of the system: 2 where memory ran out, else 1.
-fn status_of(error: &io::Error) -> u8 {
+fn status_of(error: &io::Error) -> u8
+    ensures memory { error_kind error.now ≡ OutOfMemory → result ≡ 2 }
+    ensures other { error_kind error.now ≢ OutOfMemory → result ≡ 1 }
+{
     if error.kind() == ErrorKind::OutOfMemory {
         2
     } else {
@@ -93,20 +103,25 @@ fn status_of(error: &io::Error) -> u8 {
 
 /// Reads a file of a size, into memory that is asked for once. What is added to it meanwhile is not read. Each part is filled
 /// with zeros right before it is read, so these stay in the processor's cache.
-pub(crate) fn read_sized(rt: &HostRuntime, path: &str, size: u64) -> io::Result<Vec<u8>> {
+pub(crate) fn read_sized(rt: &HostRuntime, path: &str, size: u64) -> io::Result<Vec<u8>>
+    ensures { IfOk result (λ bytes. length bytes.items ≡ size) }
+{
     let size = size as usize;
     let mut file = File::open(rt, path)?;
     let mut bytes = Vec::with_capacity(rt.alloc(), size)?;
-    for start in (0..size).step_by(PART) {
-        read_part(&mut file, start + (size - start).min(PART), &mut bytes)?;
+    for _part in 0..size.div_ceil(PART) {
+        let count = (size.saturating_sub(bytes.len())).min(PART);
+        read_part(&mut file, count, &mut bytes)?;
     }
     Ok(bytes)
 }
 
-/// Reads bytes of a file up to an end, after those that were read.
-fn read_part(file: &mut File, end: usize, bytes: &mut Vec<u8>) -> io::Result<()> {
+/// Reads so many bytes of a file, after those that were read.
+fn read_part(file: &mut File, count: usize, bytes: &mut Vec<u8>) -> io::Result<()>
+    ensures { OnOk result (length bytes.new.items ≡ length bytes.old.items + count) }
+{
     let start = bytes.len();
-    append_zeros(bytes, end.saturating_sub(start))?;
+    append_zeros(bytes, count)?;
     match bytes.as_mut_slice().get_mut(start..) {
         Some(part) => file.read_exact(part),
         None => Ok(()),
@@ -114,30 +129,32 @@ fn read_part(file: &mut File, end: usize, bytes: &mut Vec<u8>) -> io::Result<()>
 }
 
 /// Reads so many bytes of a file from an offset on.
-pub(crate) fn read_at(
-    alloc: Global,
-    file: &mut File,
-    offset: u64,
-    size: u64,
-) -> io::Result<Vec<u8>> {
+pub(crate) fn read_at(alloc: Global, file: &mut File, offset: u64, size: u64) -> io::Result<Vec<u8>>
+    ensures { IfOk result (λ bytes. length bytes.items ≡ size) }
+{
     let mut bytes = zeros(alloc, size as usize)?;
     fill_at(file, offset, bytes.as_mut_slice())?;
     Ok(bytes)
 }
 
 /// Returns so many zeros.
-pub(crate) fn zeros(alloc: Global, count: usize) -> Result<Vec<u8>, AllocError> {
+pub(crate) fn zeros(alloc: Global, count: usize) -> Result<Vec<u8>, AllocError>
+    ensures { IfOk result (λ bytes. bytes.items ≡ replicate count 0) }
+{
     let mut bytes = Vec::with_capacity(alloc, count)?;
     append_zeros(&mut bytes, count)?;
     Ok(bytes)
 }
 
 /// Appends so many zeros, a block at a time: one by one they take longer than the file's bytes that are read over them.
-fn append_zeros(bytes: &mut Vec<u8>, count: usize) -> Result<(), AllocError> {
+fn append_zeros(bytes: &mut Vec<u8>, count: usize) -> Result<(), AllocError>
+    ensures { OnOk result (bytes.new.items ≡ bytes.old.items ++ replicate count 0) }
+{
     let block = [0u8; BLOCK];
-    for start in (0..count).step_by(BLOCK) {
-        bytes.extend_from_slice(&block[..(count - start).min(BLOCK)])?;
+    for _block in 0..count / BLOCK {
+        bytes.extend_from_slice(&block)?;
     }
+    bytes.extend_from_slice(&block[..count % BLOCK])?;
     Ok(())
 }
 
@@ -147,7 +164,9 @@ pub(crate) fn read_front<'a>(
     offset: u64,
     size: u64,
     slice: &'a mut [u8],
-) -> io::Result<&'a mut [u8]> {
+) -> io::Result<&'a mut [u8]>
+    ensures { IfOk result (λ rest. rest.now ≡ drop (min size (length slice.old)) slice.old) }
+{
     let size = (size as usize).min(slice.len());
     let (front, rest) = slice.split_at_mut(size);
     if size > 0 {
@@ -181,15 +200,21 @@ pub fn announce(rt: &HostRuntime, path: &str, size: u64) -> io::Result<()> {
 /// Returns whether standard error is a terminal, by where its descriptor leads.
 fn is_terminal(rt: &HostRuntime) -> bool {
     match fs::read_link(rt, "/proc/self/fd/2") {
-        Ok(path) => {
-            let device = path.as_str();
-            device.starts_with("/dev/pts/") || device.starts_with("/dev/tty")
-        }
+        Ok(path) => is_terminal_path(path.as_str().as_bytes()),
         Err(_) => false,
     }
 }
 
+/// Returns whether a path is that of a terminal.
+fn is_terminal_path(path: &[u8]) -> bool
+    ensures { result ≡ is_terminal_path path.now }
+{
+    path.starts_with(b"/dev/pts/") || path.starts_with(b"/dev/tty")
+}
+
 /// Returns the name of what is read by a path.
-pub fn name_of(path: &str) -> &str {
+pub fn name_of(path: &str) -> &str
+    ensures { result.now ≡ input_name path.entry.now }
+{
     if path == "-" { "standard input" } else { path }
 }

@@ -4,11 +4,16 @@
 
 pub mod core_parts;
 pub mod disk;
+mod gaps;
 pub mod input;
 pub mod known_names;
 pub mod listing;
 pub mod messages;
 mod object_parts;
 mod paths;
+mod places;
 pub mod printed;
 pub mod read_paths;
+mod segments;
+mod unasked;
+mod wanted;

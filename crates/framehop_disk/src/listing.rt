@@ -1,4 +1,7 @@
 //! The files that a path on the command line stands for.
+ghost use Rattle.std.specs.Prelude.{◌≡◌, codes, nat_eq};
+ghost use Rattle.std.specs.List.{ends_with};
+
 use framehop_cli::Result;
 use std::fs::DirEntry;
 use std::io::ErrorKind;
@@ -34,7 +37,7 @@ pub fn files_at(rt: &HostRuntime, path: &str) -> Result<Listed> {
 /// Adds an entry of a folder to the files, or counts it, if its name is no UTF-8.
 fn add_entry(rt: &HostRuntime, entry: io::Result<DirEntry>, listed: &mut Listed) -> Result<()> {
     match entry {
-        Ok(entry) if entry.file_name().ends_with(".data") => {
+        Ok(entry) if is_recording_name(entry.file_name().as_bytes()) => {
             let path = String::from_str(rt.alloc(), entry.path().as_str())?;
             listed.paths.push(path)?;
             Ok(())
@@ -46,6 +49,13 @@ fn add_entry(rt: &HostRuntime, entry: io::Result<DirEntry>, listed: &mut Listed)
         }
         Err(error) => Err(error.into()),
     }
+}
+
+/// Returns whether a file is taken for a recording, by its name.
+fn is_recording_name(name: &[u8]) -> bool
+    ensures { result ≡ ends_with nat_eq name.now (codes ".data") }
+{
+    name.ends_with(b".data")
 }
 
 /// Returns whether a folder is a recording of `perf record --threads`: it has a file `data` beside those of the threads,

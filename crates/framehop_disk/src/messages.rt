@@ -1,4 +1,7 @@
 //! What is said on standard error.
+ghost use Rattle.std.specs.Prelude.{◌≡◌};
+ghost use Rattle.framehop_disk.specs.Printed.{is_plain};
+
 use crate::printed::printed_text;
 use framehop_cli::Printed;
 use std::fmt::Display;
@@ -42,7 +45,9 @@ impl Write for Messages<'_> {
 }
 
 /// Returns whether a text has only characters of ASCII that are printed, and line feeds. Such a text takes no memory.
-fn is_plain(text: &[u8]) -> bool {
+fn is_plain(text: &[u8]) -> bool
+    ensures { result ≡ is_plain text.now }
+{
     text.iter()
         .all(|byte| *byte == b'\n' || (*byte >= b' ' && *byte < 0x7f))
 }

@@ -1,20 +1,22 @@
 //! Mapped files without the sections of which neither unwinding nor names ask for a byte: most of a file that was built for
 //! debugging.
+ghost use Rattle.std.specs.Prelude.{◌≡◌, IfOk};
+ghost use Rattle.framehop_disk.specs.ObjectParts.{front_size, headers_place, headers_size, is_object, kept_parts, names_section, with_moved, with_section, written};
+
+use crate::gaps::{Gap, Gaps};
 use crate::input::{read_at, read_front, read_sized, zeros};
+use crate::unasked::{end_of_code, gaps_in, is_inside};
 use framehop_elf::header::{FileHeader, HEADER_SIZE, read_file_header};
-use framehop_elf::program_header::{
-    ENTRY_SIZE as PROGRAM_HEADER_SIZE, PT_NOTE, ProgramHeader, read_program_headers,
-};
-use framehop_elf::section::{SHF_EXECINSTR, SHT_NOBITS};
+use framehop_elf::program_header::{ENTRY_SIZE as PROGRAM_HEADER_SIZE, read_program_headers};
 use framehop_elf::section_header::{
     ENTRY_SIZE as SECTION_HEADER_SIZE, SectionHeader, read_section_headers,
 };
-use framehop_elf::segment::PF_X;
 use framehop_pe_file::header::is_pe;
 use framehop_symbols::object_file::build_id_of;
-use std::alloc::Global;
+use std::alloc::{AllocError, Global};
 use std::fs::File;
 use std::io;
+use std::ops::Range;
 
 /// The size from which on sections are left out of a file, in bytes: 1 MiB.
 const SMALLEST: u64 = 0x10_0000;
@@ -31,28 +33,13 @@ const SH_OFFSET: u64 = 24;
 /// The offset of `sh_size` in a section header, in bytes.
 const SH_SIZE: u64 = 32;
 
-/// `SHT_PROGBITS`.
-const SHT_PROGBITS: u32 = 1;
-
-/// A part of a file that is left out.
-#[derive(Clone, Copy)]
-struct Gap {
-    /// The offset at which it begins, in bytes.
-    start: u64,
-    /// The offset at which it ends, in bytes.
-    end: u64,
-    /// How many bytes are left out up to its end, with its own.
-    so_far: u64,
-}
-
 /// The section headers of a file, and the parts of it that are left out.
 #[derive(Drop)]
 struct Sections {
     /// Where the section headers begin in the file, in bytes.
     offset: u64,
     headers: Vec<SectionHeader>,
-    /// In the order of their offsets, and apart.
-    left_out: Vec<Gap>,
+    left_out: Gaps,
 }
 
 /// Reads a file of a size: of one of 1 MiB or more that is neither an ELF nor a PE file the first bytes, by which it is refused;
@@ -74,7 +61,9 @@ pub(crate) fn read_object(rt: &HostRuntime, path: &str, size: u64) -> io::Result
 }
 
 /// Returns whether a file may be an ELF or a PE file, by its first bytes.
-fn is_object(front: &[u8]) -> bool {
+fn is_object(front: &[u8]) -> bool
+    ensures { result ≡ is_object front.now }
+{
     front.starts_with(b"\x7fELF") || is_pe(front)
 }
 
@@ -102,8 +91,13 @@ fn read_with_build_id(
     size: u64,
     sections: &Sections,
 ) -> io::Result<Option<Vec<u8>>> {
-    let mut bytes = read_rest(alloc, file, size, sections.left_out.as_slice())?;
-    move_sections(bytes.as_mut_slice(), sections);
+    let mut bytes = read_rest(alloc, file, size, &sections.left_out)?;
+    move_sections(
+        bytes.as_mut_slice(),
+        sections.offset,
+        sections.headers.as_slice(),
+        &sections.left_out,
+    );
     if build_id_of(alloc, bytes.as_slice())?.is_empty() {
         Ok(None)
     } else {
@@ -144,28 +138,21 @@ fn read_gaps(
     headers: &[SectionHeader],
     code_end: u64,
     size: u64,
-) -> io::Result<Option<Vec<Gap>>> {
+) -> io::Result<Option<Gaps>> {
     let Some(names) = names_section(header, headers, size) else {
         return Ok(None);
     };
     let names = read_at(alloc, file, names.sh_offset, names.sh_size)?;
-    let mut left_out = unasked_parts(alloc, headers, names.as_slice(), size)?;
-    let is_apart = add_up(left_out.as_mut_slice(), code_end)
-        && are_kept(headers, names.as_slice(), left_out.as_slice())
-        && is_kept(header.e_shoff, headers_size(header), left_out.as_slice());
-    if left_out.is_empty() || !is_apart {
-        Ok(None)
-    } else {
-        Ok(Some(left_out))
+    match gaps_in(alloc, headers, names.as_slice(), code_end, size)? {
+        Some(gaps) if gaps.keep(header.e_shoff, headers_size(header)) => Ok(Some(gaps)),
+        _ => Ok(None),
     }
 }
 
 /// Returns the section of the names of sections, if a file of a size has it, and it is not too large.
-fn names_section(
-    header: FileHeader,
-    headers: &[SectionHeader],
-    size: u64,
-) -> Option<SectionHeader> {
+fn names_section(header: FileHeader, headers: &[SectionHeader], size: u64) -> Option<SectionHeader>
+    ensures { result ≡ names_section header headers.now size }
+{
     let names = headers.get(usize::from(header.e_shstrndx))?;
     if is_inside(names, size) && names.sh_size <= LARGEST_NAMES {
         Some(*names)
@@ -174,35 +161,12 @@ fn names_section(
     }
 }
 
-/// Returns the parts of a file of a size that nothing asks for, in the order of their offsets.
-fn unasked_parts(
-    alloc: Global,
-    headers: &[SectionHeader],
-    names: &[u8],
-    size: u64,
-) -> io::Result<Vec<Gap>> {
-    let mut parts = Vec::new(alloc);
-    for section in headers {
-        if is_unasked(section, names) && is_inside(section, size) {
-            parts.push(Gap {
-                start: section.sh_offset,
-                end: section.sh_offset.saturating_add(section.sh_size),
-                so_far: 0,
-            })?;
-        }
-    }
-    parts.sort_by_key(|part| part.start)?;
-    Ok(parts)
-}
-
 /// Returns the offset at which a file's program headers, its code and its notes end. `None` where the program headers are not
 /// in its first MiB, or can't be read.
 fn code_end(alloc: Global, file: &mut File, header: FileHeader) -> io::Result<Option<u64>> {
-    let size = PROGRAM_HEADER_SIZE as u64 * u64::from(header.e_phnum);
-    let end = header.e_phoff.saturating_add(size).max(HEADER_SIZE);
-    if end > SMALLEST {
+    let Some(end) = front_size(header) else {
         return Ok(None);
-    }
+    };
     let front = read_at(alloc, file, 0, end)?;
     match read_program_headers(alloc, front.as_slice(), header) {
         Ok(headers) => Ok(Some(end_of_code(headers.as_slice(), end))),
@@ -210,15 +174,14 @@ fn code_end(alloc: Global, file: &mut File, header: FileHeader) -> io::Result<Op
     }
 }
 
-/// Returns where the last segment of code or notes ends, if that is after an end.
-fn end_of_code(headers: &[ProgramHeader], end: u64) -> u64 {
-    let mut end = end;
-    for segment in headers {
-        if segment.p_type == PT_NOTE || segment.p_flags & PF_X != 0 {
-            end = end.max(segment.p_offset.saturating_add(segment.p_filesz));
-        }
-    }
-    end
+/// Returns where the program headers of a file end, or its header where it has none before that. `None` where they are not in its
+/// first MiB.
+fn front_size(header: FileHeader) -> Option<u64>
+    ensures { result ≡ front_size header }
+{
+    let size = PROGRAM_HEADER_SIZE as u64 * u64::from(header.e_phnum);
+    let end = header.e_phoff.saturating_add(size).max(HEADER_SIZE);
+    if end <= SMALLEST { Some(end) } else { None }
 }
 
 /// Reads the section headers of a file of a size, if it has them where its header says.
@@ -228,16 +191,11 @@ fn read_headers(
     header: FileHeader,
     size: u64,
 ) -> io::Result<Option<Vec<SectionHeader>>> {
-    let end = header.e_shoff.saturating_add(headers_size(header));
-    if header.e_shoff < HEADER_SIZE || header.e_shnum == 0 || end > size {
+    let Some(place) = headers_place(header, size) else {
         return Ok(None);
-    }
-    let table = read_at(
-        alloc,
-        file,
-        header.e_shoff - HEADER_SIZE,
-        end - header.e_shoff + HEADER_SIZE,
-    )?;
+    };
+    let before = place.start.saturating_sub(HEADER_SIZE);
+    let table = read_at(alloc, file, before, place.end.saturating_sub(before))?;
     let here = FileHeader {
         e_shoff: HEADER_SIZE,
         ..header
@@ -245,113 +203,79 @@ fn read_headers(
     Ok(read_section_headers(alloc, table.as_slice(), here).ok())
 }
 
+/// Returns where a file of a size has its section headers: after its own header, if it has some.
+fn headers_place(header: FileHeader, size: u64) -> Option<Range<u64>>
+    ensures { result ≡ headers_place header size }
+{
+    let end = header.e_shoff.saturating_add(headers_size(header));
+    if header.e_shoff < HEADER_SIZE || header.e_shnum == 0 || end > size {
+        None
+    } else {
+        Some(header.e_shoff..end)
+    }
+}
+
 /// Returns the size of the section headers of a file, in bytes.
-fn headers_size(header: FileHeader) -> u64 {
+fn headers_size(header: FileHeader) -> u64
+    ensures { result ≡ headers_size header }
+{
     SECTION_HEADER_SIZE as u64 * u64::from(header.e_shnum)
 }
 
-/// Returns whether a file of a size has all bytes of a section.
-fn is_inside(section: &SectionHeader, size: u64) -> bool {
-    section.sh_offset <= size && section.sh_size <= size - section.sh_offset
-}
-
-/// Returns whether neither unwinding nor names ask for a byte of a section: it has data that is no code, or only debuggers
-/// read it.
-fn is_unasked(section: &SectionHeader, names: &[u8]) -> bool {
-    let Some(name) = names.get(section.sh_name as usize..) else {
-        return false;
-    };
-    let is_named = name.starts_with(b".rodata\0")
-        || name.starts_with(b".data\0")
-        || (name.starts_with(b".debug_") && !name.starts_with(b".debug_frame\0"));
-    is_named
-        && section.sh_type == SHT_PROGBITS
-        && section.sh_flags & SHF_EXECINSTR == 0
-        && section.sh_size > 0
-}
-
-/// Counts what is left out by parts in the order of their offsets. Returns whether each begins after the one before, and the
-/// first after the code.
-fn add_up(left_out: &mut [Gap], code_end: u64) -> bool {
-    let (mut end, mut so_far) = (code_end, 0u64);
-    for part in left_out {
-        if part.start < end {
-            return false;
-        }
-        so_far = so_far.saturating_add(part.end.saturating_sub(part.start));
-        part.so_far = so_far;
-        end = part.end;
-    }
-    true
-}
-
-/// Returns whether all bytes of the other sections are kept.
-fn are_kept(headers: &[SectionHeader], names: &[u8], left_out: &[Gap]) -> bool {
-    headers.iter().all(|section| {
-        section.sh_type == SHT_NOBITS
-            || is_unasked(section, names)
-            || is_kept(section.sh_offset, section.sh_size, left_out)
-    })
-}
-
-/// Returns whether so many bytes from an offset on are kept.
-fn is_kept(offset: u64, size: u64, left_out: &[Gap]) -> bool {
-    let next = left_out.partition_point(|part| part.end <= offset);
-    match left_out.get(next) {
-        Some(part) => offset.saturating_add(size) <= part.start,
-        None => true,
-    }
-}
-
 /// Reads a file of a size without the parts that are left out.
-fn read_rest(alloc: Global, file: &mut File, size: u64, left_out: &[Gap]) -> io::Result<Vec<u8>> {
-    let without = moved(size, left_out);
-    let mut bytes = zeros(alloc, without as usize)?;
+fn read_rest(alloc: Global, file: &mut File, size: u64, left_out: &Gaps) -> io::Result<Vec<u8>> {
+    let mut bytes = zeros(alloc, left_out.moved(size) as usize)?;
     let mut rest = bytes.as_mut_slice();
-    let mut start = 0;
-    for part in left_out {
-        rest = read_front(file, start, part.start.saturating_sub(start), rest)?;
-        start = part.end;
+    let parts = kept_parts(alloc, left_out.gaps(), size)?;
+    for part in &parts {
+        rest = read_front(file, part.start, part.end.saturating_sub(part.start), rest)?;
     }
-    read_front(file, start, size.saturating_sub(start), rest)?;
     Ok(bytes)
 }
 
-/// Writes where the sections are in a file of which parts are left out: those have no bytes.
-fn move_sections(bytes: &mut [u8], sections: &Sections) {
-    let left_out = sections.left_out.as_slice();
-    let mut place = moved(sections.offset, left_out);
+/// Returns the parts of a file of a size that are read: what is before, between and after the gaps.
+fn kept_parts(alloc: Global, left_out: &[Gap], size: u64) -> Result<Vec<Range<u64>>, AllocError>
+    ensures { IfOk result (λ parts. parts.items ≡ kept_parts size left_out.now) }
+{
+    let mut parts = Vec::new(alloc);
+    let mut start = 0;
+    for gap in left_out {
+        parts.push(start..gap.start)?;
+        start = gap.end;
+    }
+    parts.push(start..size)?;
+    Ok(parts)
+}
+
+/// Writes where the sections are in a file of which parts are left out: those have no bytes. Their headers began at an offset.
+fn move_sections(bytes: &mut [u8], offset: u64, sections: &[SectionHeader], left_out: &Gaps)
+    ensures { bytes.new ≡ with_moved left_out.now offset sections.now bytes.old }
+{
+    let mut place = left_out.moved(offset);
     write_u64(bytes, E_SHOFF, place);
-    for section in &sections.headers {
-        write_u64(
-            bytes,
-            place.saturating_add(SH_OFFSET),
-            moved(section.sh_offset, left_out),
-        );
-        if left_out
-            .binary_search_by_key(&section.sh_offset, |part| part.start)
-            .is_ok()
-        {
-            write_u64(bytes, place.saturating_add(SH_SIZE), 0);
-        }
+    for section in sections {
+        move_section(bytes, place, section, left_out);
         place = place.saturating_add(SECTION_HEADER_SIZE as u64);
     }
 }
 
-/// Returns where an offset is in a file of which parts are left out.
-fn moved(offset: u64, left_out: &[Gap]) -> u64 {
-    let before = left_out.partition_point(|part| part.end <= offset);
-    match left_out[..before].last() {
-        Some(part) => offset.saturating_sub(part.so_far),
-        None => offset,
+/// Writes where a section is, whose header is at a place.
+fn move_section(bytes: &mut [u8], place: u64, section: &SectionHeader, left_out: &Gaps)
+    ensures { bytes.new ≡ with_section left_out.now place section.now bytes.old }
+{
+    let offset = left_out.moved(section.sh_offset);
+    write_u64(bytes, place.saturating_add(SH_OFFSET), offset);
+    if left_out.begins_at(section.sh_offset) {
+        write_u64(bytes, place.saturating_add(SH_SIZE), 0);
     }
 }
 
-/// Writes a number at an offset.
-pub(crate) fn write_u64(bytes: &mut [u8], offset: u64, number: u64) {
-    if let Some(place) = bytes.get_mut(offset as usize..) {
-        for (byte, digit) in place.iter_mut().zip(number.to_le_bytes()) {
-            *byte = digit;
-        }
-    }
+/// Writes the bytes of a number at an offset, as many of them as there is room for.
+pub(crate) fn write_u64(bytes: &mut [u8], offset: u64, number: u64)
+    ensures { bytes.new ≡ written bytes.old offset number }
+{
+    let digits = number.to_le_bytes();
+    let start = (offset as usize).min(bytes.len());
+    let count = (bytes.len() - start).min(8);
+    bytes[start..start + count].copy_from_slice(&digits[..count]);
 }

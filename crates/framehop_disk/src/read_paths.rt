@@ -1,4 +1,9 @@
 //! Where files of a disk were read.
+ghost use Rattle.std.specs.Prelude.{◌≡◌, IfOk, find, reverse};
+ghost use Rattle.std.specs.Option.{option_copied};
+ghost use Rattle.framehop_symbols.specs.Files.{path_of};
+ghost use Rattle.framehop_disk.specs.ReadPaths.{debug_file_of, file_of, is_named, is_read_by, last_of, path_bytes};
+
 use framehop_frames::json_files::FilePaths;
 use framehop_symbols::files::{Files, NamedFile};
 use std::alloc::{AllocError, Global};
@@ -84,37 +89,77 @@ impl ReadPaths {
 
     /// Returns where a file was read.
     fn of_file(&self, alloc: Global, file: &NamedFile<'_>) -> Result<FilePaths, AllocError> {
-        let none = FilePaths {
-            file: None,
-            debug_file: None,
-        };
-        let (Some(object), Ok(list)) = (&file.object, self.list.try_borrow()) else {
-            return Ok(none);
-        };
-        let name = undeleted(file.name.as_slice());
-        let named = list.iter().rev().filter(|one| one.name.as_slice() == name);
-        let mut found = None;
-        for one in named {
-            if one.build_id.as_slice() == object.build_id() {
-                found = Some(one);
-                break;
+        match (&file.object, self.list.try_borrow()) {
+            (Some(object), Ok(list)) => {
+                let name = undeleted(file.name.as_slice());
+                paths_of(alloc, last_of(list.as_slice(), name, object.build_id()))
             }
-            if found.is_none() {
-                found = Some(one);
-            }
-        }
-        match found {
-            Some(one) => Ok(FilePaths {
-                file: copied(alloc, &one.file)?,
-                debug_file: copied(alloc, &one.debug_file)?,
-            }),
-            None => Ok(none),
+            _ => paths_of(alloc, None),
         }
     }
 }
 
+/// Returns the last that was read by a name where a build id was wanted, or else the last by that name.
+fn last_of<'l>(list: &'l [ReadPath], name: &[u8], build_id: &[u8]) -> Option<&'l ReadPath>
+    ensures { option_copied result ≡ last_of name.now build_id.now list.entry.now }
+{
+    match last_read_by(list, name, build_id) {
+        Some(read) => Some(read),
+        None => last_named(list, name),
+    }
+}
+
+/// Returns the last that was read by a name where a build id was wanted.
+fn last_read_by<'l>(list: &'l [ReadPath], name: &[u8], build_id: &[u8]) -> Option<&'l ReadPath>
+    ensures { option_copied result ≡ find (is_read_by name.now build_id.now) (reverse list.entry.now) }
+{
+    list.iter()
+        .rev()
+        .find(|read| is_read_by(read, name, build_id))
+}
+
+/// Returns the last that was read by a name.
+fn last_named<'l>(list: &'l [ReadPath], name: &[u8]) -> Option<&'l ReadPath>
+    ensures { option_copied result ≡ find (is_named name.now) (reverse list.entry.now) }
+{
+    list.iter().rev().find(|read| is_named(read, name))
+}
+
+/// Returns whether a file was read by a name where a build id was wanted.
+fn is_read_by(read: &ReadPath, name: &[u8], build_id: &[u8]) -> bool
+    ensures { result ≡ is_read_by name.now build_id.now read.now }
+{
+    is_named(read, name) && read.build_id.as_slice() == build_id
+}
+
+/// Returns whether a file was read by a name.
+fn is_named(read: &ReadPath, name: &[u8]) -> bool
+    ensures { result ≡ is_named name.now read.now }
+{
+    read.name.as_slice() == name
+}
+
+/// Returns the paths of what was read, if something was.
+fn paths_of(alloc: Global, read: Option<&ReadPath>) -> Result<FilePaths, AllocError>
+    ensures file { IfOk result (λ paths. path_bytes paths.file ≡ file_of (option_copied read.entry)) }
+    ensures debug_file { IfOk result (λ paths. path_bytes paths.debug_file ≡ debug_file_of (option_copied read.entry)) }
+{
+    match read {
+        Some(read) => Ok(FilePaths {
+            file: copied(alloc, &read.file)?,
+            debug_file: copied(alloc, &read.debug_file)?,
+        }),
+        None => Ok(FilePaths {
+            file: None,
+            debug_file: None,
+        }),
+    }
+}
+
 /// Returns the path of a file without the mark that it was deleted, as files are asked for.
-fn undeleted(name: &[u8]) -> &[u8] {
+fn undeleted(name: &[u8]) -> &[u8]
+    ensures { result.now ≡ path_of name.entry.now }
+{
     match name.strip_suffix(b" (deleted)") {
         Some(path) => path,
         None => name,
@@ -122,7 +167,9 @@ fn undeleted(name: &[u8]) -> &[u8] {
 }
 
 /// Returns a copy of a path, if there is one.
-fn copied(alloc: Global, path: &Option<Vec<u8>>) -> Result<Option<Vec<u8>>, AllocError> {
+fn copied(alloc: Global, path: &Option<Vec<u8>>) -> Result<Option<Vec<u8>>, AllocError>
+    ensures { IfOk result (λ copy. path_bytes copy ≡ path_bytes path.now) }
+{
     match path {
         Some(path) => Ok(Some(Vec::from_slice(alloc, path.as_slice())?)),
         None => Ok(None),

@@ -514,27 +514,3 @@ fn search(tree: &[(u32, u32)], address: u32) -> (Option<u32>, u32)
         None => (None, count),
     }
 }
-
-#[cfg(test)]
-mod tests {
-    use super::*;
-    use std::test::Fail;
-
-    /// The pairs are stored level by level, and searches from the first place look at so many of them.
-    #[test]
-    fn stands_as_a_tree(rt: HostRuntime) -> Result<(), Fail> {
-        let keys = [
-            key_of((0x10, 24)),
-            key_of((0x20, 52)),
-            key_of((0x20, 80)),
-            key_of((0x30, 108)),
-        ];
-        let index = DwarfCfiIndex::from_keys(rt.alloc(), Vec::from_slice(rt.alloc(), &keys)?)?;
-        let tree = [(0x20, 80), (0x20, 52), (0x30, 108), (0x10, 24)];
-        assert_eq!(rt; index.tree.as_slice(), tree.as_slice());
-        assert_eq!(rt; index.lookup_counted(0x2f), (Some(80), 2));
-        assert_eq!(rt; index.lookup_counted(0x10), (Some(24), 3));
-        assert_eq!(rt; index.lookup_counted(0x0f), (None, 3));
-        Ok(())
-    }
-}

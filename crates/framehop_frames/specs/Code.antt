@@ -2,12 +2,12 @@
 use Rattle.std.specs.Prelude.{ℕ, ◌-◌, Bool, ◌||◌, ◌&&◌, nat_le, nat_lt, List, length, take, drop, Option, Some, None, option_and_then, if◌then◌else◌}
 use Rattle.std.specs.Option.{option_or}
 use Rattle.framehop_processes.specs.declared.mapping.Mapping.{Mapping}
-use Rattle.framehop_signal.specs.Trampoline.{is_trampoline}
 use Rattle.framehop_symbols.specs.Code.{code_at, is_mapped, is_at_entry}
 use Rattle.framehop_symbols.specs.Place.{PlaceView, in_function, in_unnamed, in_file, unmapped, place_at}
 use Rattle.framehop_symbols.specs.declared.files.Files.{Files}
 use Rattle.framehop_backtrace.specs.Call.{passes}
 use Rattle.framehop_backtrace.specs.Code.{Code}
+use Rattle.framehop_backtrace.specs.Signal.{is_trampoline}
 
 -- those of a copy of a stack from an address on, which begins at a base
 abbrev pub bytes_after : ℕ → List ℕ → ℕ → Option (List ℕ)

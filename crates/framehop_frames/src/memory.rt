@@ -5,11 +5,11 @@ ghost use Rattle.framehop_frames.specs.Code.{bytes_from, bytes_at, start_in};
 
 use framehop::walk::{StackBytes, Words};
 use framehop_backtrace::CodeMemory;
+use framehop_backtrace::signal::is_trampoline;
 use framehop_bytes::bytes::back;
 use framehop_code::x86_64::action::Instruction;
 use framehop_columns::memory::WordMemory;
 use framehop_processes::{Process, ProcessUnwinder};
-use framehop_signal::trampoline::is_trampoline;
 use framehop_symbols::code::{code_at, is_at_entry, is_mapped};
 use framehop_symbols::files::Files;
 use framehop_symbols::place::{Place, place_of};

@@ -10,6 +10,4 @@ mod dynamic;
 pub mod inflate_error;
 pub mod section;
 mod stored;
-#[cfg(test)]
-mod tests;
 mod zlib;

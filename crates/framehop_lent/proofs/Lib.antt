@@ -1,3 +1,4 @@
+mod Order
 mod Reading
 mod Wanting
 mod Windows

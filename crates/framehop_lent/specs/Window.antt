@@ -1,5 +1,5 @@
 -- The memory of stack words that are lent.
-use Rattle.std.specs.Prelude.{ℕ, ◌≡◌, Bool, true, false, if◌then◌else◌, nat_le, ◌&&◌, ◌==◌, ◌-◌, ◌/◌, ◌%◌, List, [], ◌∷◌, length, slice_get, Option, Some, None, IfSome, option_map, Result, Err}
+use Rattle.std.specs.Prelude.{ℕ, ◌≡◌, Bool, true, false, if◌then◌else◌, nat_le, ◌&&◌, ◌==◌, ◌+◌, ◌*◌, ◌-◌, ◌/◌, ◌%◌, List, [], ◌∷◌, length, slice_get, Option, Some, None, IfSome, option_map, Result, Err}
 use Rattle.framehop.specs.Memory.{Memory}
 use Rattle.framehop_core.specs.declared.error.Error.{Error}
 use Rattle.framehop_core.specs.declared.error.Error.TheVariants.{CouldNotReadStack}
@@ -61,3 +61,16 @@ noted windows None address = unless_told (told_in windows address) address
 abbrev pub unreadable_word : Result (Option ℕ) Error → Option ℕ
 unreadable_word (Err (CouldNotReadStack address)) = Some address
 unreadable_word _ = None
+
+-- the first address above all of which a window tells
+abbrev pub end_of : Window → ℕ
+end_of window = if length window.words.now == 0 then window.base + 1 else window.base + 8 * length window.words.now
+
+-- each window lies above all that the one before it tells of, the first one from an address on
+abbrev pub above : ℕ → List Window → Bool
+above end [] = true
+above end (window ∷ windows) = nat_le end window.base && above (end_of window) windows
+
+-- so that no two tell of one address
+abbrev pub in_order : List Window → Bool
+in_order windows = above 0 windows

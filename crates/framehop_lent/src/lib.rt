@@ -5,6 +5,7 @@
 #![tactic(auto)]
 
 pub mod ahead;
+mod ordered;
 pub mod step;
 pub mod walk;
 pub mod window;

@@ -77,7 +77,11 @@ pub(crate) fn read_noting(
 
 /// Returns what the windows tell of an address (AVMA). The first one of which they tell nothing is noted.
 #[inline(never)]
-fn look_up(windows: &[Window<'_>], first_missing: &mut Option<u64>, address: u64) -> Result<u64, ()>
+pub(crate) fn look_up(
+    windows: &[Window<'_>],
+    first_missing: &mut Option<u64>,
+    address: u64,
+) -> Result<u64, ()>
     ensures reads { result ≡ reply (words_in windows.now address) }
     ensures notes { first_missing.new ≡ noted windows.now first_missing.old address }
 {

@@ -12,7 +12,8 @@ ghost use Rattle.framehop.specs.Walk.{walk_from, cache_after_walk, cache_after_c
 ghost use Rattle.framehop_lent.specs.Window.{words_from, words_in, told_in, noted, unreadable_word, AgreesWith, IsReadAs};
 ghost use Rattle.framehop_lent.specs.Walk.{IsWrittenWalk, BeginsWalk, IsWrittenUpTo, IsCallerOrEnd, IsUntold, WhereEnded};
 
-use crate::step::{missing_word, read_noting, step_over};
+use crate::ordered::{Near, Ordered};
+use crate::step::{missing_word, step_over};
 use crate::window::{Window, word_at};
 use framehop::session::WalkEnd;
 use framehop::{Error, FrameAddress, UnwindIterator, Unwinder};
@@ -133,6 +134,11 @@ pub fn walk_on<U: Unwinder>(
         IsWrittenUpTo step limit (location_of callee) regs.old result.0 frames.new result.1 regs.new
         × WhereEnded result.1 (λ _. cache.new ≡ cache_after_callers step (U.cache_after unwinder.now) limit (location_of callee) regs.old cache.old) }
 {
+    let windows = Ordered::new(windows);
+    // the window in which the next step's words are expected: as far from the last one as that was from the one before it
+    let mut near = 0usize;
+    let mut last = 0usize;
+    let mut around = windows.near(0);
     let mut callee = callee;
     let mut from = 0;
     while from < frames.len() {
@@ -142,10 +148,14 @@ pub fn walk_on<U: Unwinder>(
         old[..end - from].copy_from_slice(&frames[from..end]);
         for i in from..end {
             let mut past = None;
-            match caller_past(unwinder, cache, callee, regs, windows, &mut past) {
+            match caller_past(unwinder, cache, callee, regs, &around, &mut near, &mut past) {
                 Ok(caller) => {
                     frames[i] = caller.address();
                     callee = caller;
+                    let stride = near.wrapping_sub(last);
+                    last = near;
+                    near = near.wrapping_add(stride);
+                    windows.move_by(&mut around, near, stride);
                 }
                 Err(stop) => {
                     let Some(address) = past else {
@@ -170,14 +180,15 @@ fn caller_past<U: Unwinder>(
     cache: &mut U::Cache,
     callee: FrameAddress,
     regs: &mut U::UnwindRegs,
-    windows: &[Window<'_>],
+    windows: &Near<'_>,
+    near: &mut usize,
     past: &mut Option<u64>,
 ) -> Result<FrameAddress, WalkStop>
     ensures stays_sound { (other : UnwinderView) → AreApart (U.unwinder_view unwinder.now) other
         → U.is_sound other cache.old → U.is_sound other cache.new }
     ensures is_caller { IfOk result (λ caller. location_of caller ≡ at_return_address (address_of (location_of caller))) }
-    ensures missing { IfErr result (λ stop. IsUntold windows.now stop) }
-    ensures past { IfSome past.new (λ address. told_in windows.now address ≡ None) }
+    ensures missing { IfErr result (λ stop. IsUntold windows.now.windows.now stop) }
+    ensures past { IfSome past.new (λ address. told_in windows.now.windows.now address ≡ None) }
     ensures kept { past.new ≡ None → IfErr result (λ stop. stop ≢ WalkStop.Ended (WalkEnd.Refused Error.ReturnAddressIsNull) → regs.new ≡ regs.old) }
     ensures ended { IfErr result (λ stop. WhereEnded stop (λ end. end ≢ WalkEnd.Refused Error.ReturnAddressIsNull → regs.new ≡ regs.old)) }
     ensures may_run_out { result ≡ Err (WalkStop.Ended (WalkEnd.Refused Error.OutOfMemory))
@@ -188,12 +199,12 @@ fn caller_past<U: Unwinder>(
     ensures cached { MatchResult result
         (λ _. cache.new ≡ U.cache_after unwinder.now cache.old (location_of callee))
         (λ stop. WhereEnded stop (λ _. cache.new ≡ U.cache_after unwinder.now cache.old (location_of callee))) }
-    ensures answers { U.is_sound (U.unwinder_view unwinder.now) cache.old → (memory : Memory) → AgreesWith windows.now memory →
+    ensures answers { U.is_sound (U.unwinder_view unwinder.now) cache.old → (memory : Memory) → AgreesWith windows.now.windows.now memory →
         let step : FrameLocation → U.UnwindRegs → Outcome U.UnwindRegs = λ location regs. U.step unwinder.now location regs memory in
         IsCallerOrEnd (next_of step (at_frame (location_of callee)) regs.old) result regs.new }
 {
     let mut missing = None;
-    let answer = step_on(unwinder, cache, callee, regs, windows, &mut missing);
+    let answer = step_on(unwinder, cache, callee, regs, windows, near, &mut missing);
     *past = None;
     if let Some(address) = missing {
         if let Ok(Some(_)) = answer {
@@ -218,33 +229,34 @@ fn step_on<U: Unwinder>(
     cache: &mut U::Cache,
     address: FrameAddress,
     regs: &mut U::UnwindRegs,
-    windows: &[Window<'_>],
+    windows: &Near<'_>,
+    near: &mut usize,
     missing: &mut Option<u64>,
 ) -> Result<Option<u64>, Error>
     ensures kept { MatchResult result
         (λ answer. IfNone answer (regs.new ≡ regs.old))
         (λ _. regs.new ≡ regs.old) }
-    ensures missing { IfSome missing.new (λ asked. told_in windows.now asked ≡ None) }
-    ensures unreadable { missing.new ≡ None → IfSome (unreadable_word result) (λ address. told_in windows.now address ≢ None) }
+    ensures missing { IfSome missing.new (λ asked. told_in windows.now.windows.now asked ≡ None) }
+    ensures unreadable { missing.new ≡ None → IfSome (unreadable_word result) (λ address. told_in windows.now.windows.now address ≢ None) }
     ensures may_run_out { result ≡ Err Error.OutOfMemory → U.may_run_out unwinder.now cache.old (location_of address) }
     ensures cached { result ≢ Err Error.OutOfMemory → cache.new ≡ U.cache_after unwinder.now cache.old (location_of address) }
     ensures not_cached { result ≡ Err Error.OutOfMemory → cache.new ≡ U.cache_after_lookup unwinder.now cache.old (location_of address) }
     ensures stays_sound { (other : UnwinderView) → AreApart (U.unwinder_view unwinder.now) other
         → U.is_sound other cache.old → U.is_sound other cache.new }
     ensures answers { U.is_sound (U.unwinder_view unwinder.now) cache.old → result ≢ Err Error.OutOfMemory →
-        (memory : Memory) → IsReadAs windows.now (is_some missing.new) memory →
+        (memory : Memory) → IsReadAs windows.now.windows.now (is_some missing.new) memory →
         let stepping = U.step unwinder.now (location_of address) regs.old memory in
         (result ≡ answer_of stepping) × (regs.new ≡ registers_after regs.old stepping) }
 {
     let mut first_missing: Option<u64> = None;
     let mut read_stack = |address: u64| -> Result<u64, ()>
-        ensures reads { result ≡ reply (words_in windows.entry.now address) }
-        ensures notes { first_missing.exit ≡ noted windows.entry.now first_missing.entry address }
-    { read_noting(windows, &mut first_missing, address) };
+        ensures reads { result ≡ reply (words_in windows.entry.now.windows.now address) }
+        ensures notes { first_missing.exit ≡ noted windows.entry.now.windows.now first_missing.entry address }
+    { windows.read(near, &mut first_missing, address) };
     let answer = unwinder.unwind_frame(address, regs, cache, &mut read_stack);
     *missing = match (first_missing, answer) {
         (None, Ok(_)) => None,
-        _ => missing_word(windows, first_missing, answer),
+        _ => missing_word(windows.windows, first_missing, answer),
     };
     answer
 }

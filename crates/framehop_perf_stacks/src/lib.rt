@@ -23,7 +23,8 @@
 //!   was counted.
 //! - Forks share their mappings as a tree until one of them maps something. A process that maps a
 //!   file keeps its unwinder, if no fork shares it; unwinders are let go, all at once, when their
-//!   mappings together pass `MOST_READY`, which no clause states.
+//!   mappings together pass `MOST_READY`, or the last one exchanges its modules for those of a
+//!   process of about as many mappings. No clause states which.
 //! - The mask of aarch64's pointers is by the end of the last mapping.
 #![tactic(auto)]
 

@@ -1,10 +1,11 @@
 //! The processes of a recording at a time.
-ghost use Rattle.std.specs.Prelude.{◌≡◌, ◌<◌, ◌≤◌, ◌+◌, ◌⊎◌, ℕ, IfOk, IfErr, ◌==◌, if◌then◌else◌, [], Some, None, IsSome, IfSome, OnOk, false};
+ghost use Rattle.std.specs.Prelude.{◌≡◌, ◌<◌, ◌≤◌, ◌+◌, ◌-◌, ◌^◌, ◌⊎◌, ℕ, IfOk, IfErr, ◌==◌, if◌then◌else◌, [], Some, None, IsSome, IfSome, OnOk, false};
 ghost use Rattle.std.specs.BTreeMap.{get};
 ghost use Rattle.std.specs.Ordering.{nat_cmp};
 ghost use Rattle.framehop.specs.Modules.{ModuleView, UnwinderView};
 ghost use Rattle.framehop_processes.specs.Mappings.{IsInOrder, with_mapping, changed_modules};
 ghost use Rattle.framehop_processes.specs.Process.{HasModules};
+ghost use Rattle.framehop_processes.specs.declared.error.ProcessesError.{ProcessesError};
 ghost use Rattle.framehop_processes.specs.declared.mapping.Mapping.{Mapping};
 ghost use Rattle.framehop_perf_stacks.specs.Ended.{drawn_by, IsWithoutAddress, MayEnd};
 ghost use Rattle.framehop_perf_stacks.specs.Processes.{mapped_in, ready_in, with_process, after, IsFit, IsServed, AreDrawn, HaveSame, HaveReady, AreEarlier};
@@ -13,12 +14,21 @@ ghost use Rattle.framehop_perf_stacks.specs.declared.error.StacksError.TheVarian
 use crate::changes::Change;
 use crate::error::StacksError;
 use framehop::generations::Generations;
-use framehop_processes::{Mapping, ModuleMaker, Process, ProcessUnwinder, SharedMappings};
+use framehop_processes::{
+    Mapping, ModuleMaker, Process, ProcessUnwinder, ProcessesError, SharedMappings,
+};
 use std::alloc::{AllocError, Global};
 use std::collections::BTreeMap;
 
 /// About how many mappings the processes may have together whose unwinders are kept: some 30 MB of modules.
 const MOST_READY: usize = 0x4_0000;
+
+/// Where there is no room, the last process that was made becomes one of at least so many mappings: of fewer it takes less time
+/// to make all anew, once others have gone.
+const LEAST_EXCHANGED: usize = 0x400;
+
+/// It does where it has so many mappings more or fewer, at most: forks differ in few.
+const MOST_DIFFERENT: usize = 32;
 
 /// The mappings of a process.
 #[derive(Drop)]
@@ -43,6 +53,8 @@ pub struct Processes<U: ProcessUnwinder> {
     ready: BTreeMap<u64, Process<U>>,
     /// How many mappings these had together when they were made, and one more for each.
     ready_mappings: usize,
+    /// The number of the mappings of the last of these that was made.
+    latest: u64,
     /// The numbers of mappings are drawn from it, too.
     generations: Generations,
     ghost drawn: { AreDrawn by_pid generations },
@@ -73,6 +85,7 @@ impl<U: ProcessUnwinder> Processes<U> {
             by_pid: BTreeMap::new(alloc),
             ready: BTreeMap::new(alloc),
             ready_mappings: 0,
+            latest: 0,
             generations: Generations::new(),
         }
     }
@@ -102,7 +115,7 @@ impl<U: ProcessUnwinder> Processes<U> {
     }
 
     /// Makes a process ready: one with the modules of its mappings is made, unless there is one. Where those that are ready
-    /// have too many mappings together, the others are ready no more.
+    /// have too many mappings together, it is made of the last one, or the others are ready no more.
     pub(crate) fn make_ready<M: ModuleMaker<U>>(
         &mut self,
         alloc: Global,
@@ -111,6 +124,7 @@ impl<U: ProcessUnwinder> Processes<U> {
     ) -> Result<(), StacksError>
     where
         U::Module: Drop,
+        requires { (cache : U.Cache) × IsServed (M.module_of maker.now) (λ view. U.is_sound view cache) self.old.ready self.old.generations }
         ensures ready { OnOk result (IsSome (ready_in self.new.by_pid self.new.ready pid)) }
         ensures kept { OnOk result ((number : ℕ) → mapped_in self.new.by_pid number ≡ mapped_in self.old.by_pid number) }
         ensures served { OnOk result ((cache : U.Cache)
@@ -123,9 +137,9 @@ impl<U: ProcessUnwinder> Processes<U> {
         if self.ready.contains_key(&mapped.number) {
             return Ok(());
         }
-        self.make_room(alloc, mapped.mappings.len());
+        let near = self.make_room(alloc, mapped.mappings.len());
         let generations = &mut self.generations;
-        let process = Process::with_mappings(alloc, maker, &mapped.mappings, generations)?;
+        let process = process_with(alloc, maker, near, &mapped.mappings, generations)?;
         self.keep(pid, mapped.number, process)?;
         Ok(())
     }
@@ -304,19 +318,47 @@ impl<U: ProcessUnwinder> Processes<U> {
         Ok(process.mapped(alloc, maker, mapping, &mut self.generations)?)
     }
 
-    /// Lets the processes that are ready go, where they have too many mappings together with so many more.
-    fn make_room(&mut self, alloc: Global, mappings: usize)
+    /// Makes room for a process of so many mappings, where those that are ready have too many together: takes the last one that
+    /// was made, if it is like it, and else lets all go.
+    fn make_room(&mut self, alloc: Global, mappings: usize) -> Option<Process<U>>
         ensures kept { (self.new.by_pid ≡ self.old.by_pid) × (self.new.generations ≡ self.old.generations) }
         ensures served { (module_of : Mapping → ModuleView) (cache : U.Cache)
             → IsServed module_of (λ view. U.is_sound view cache) self.old.ready self.old.generations
             → IsServed module_of (λ view. U.is_sound view cache) self.new.ready self.new.generations }
+        ensures fits { (module_of : Mapping → ModuleView) (cache : U.Cache)
+            → IsServed module_of (λ view. U.is_sound view cache) self.old.ready self.old.generations
+            → IfSome result (HasModules module_of) }
     {
         let more = mappings.saturating_add(1);
-        self.ready_mappings = self.ready_mappings.saturating_add(more);
-        if self.ready_mappings > MOST_READY {
+        let together = self.ready_mappings.saturating_add(more);
+        if together <= MOST_READY {
+            self.ready_mappings = together;
+            return None;
+        }
+        let near = self.take_latest(mappings);
+        if near.is_none() {
             self.ready = BTreeMap::new(alloc);
             self.ready_mappings = more;
         }
+        near
+    }
+
+    /// Takes the last process that was made out of those that are ready, if it has about so many mappings, and not few.
+    fn take_latest(&mut self, mappings: usize) -> Option<Process<U>>
+        ensures kept { (self.new.by_pid ≡ self.old.by_pid) × (self.new.generations ≡ self.old.generations) }
+        ensures served { (module_of : Mapping → ModuleView) (cache : U.Cache)
+            → IsServed module_of (λ view. U.is_sound view cache) self.old.ready self.old.generations
+            → IsServed module_of (λ view. U.is_sound view cache) self.new.ready self.new.generations }
+        ensures fits { (module_of : Mapping → ModuleView) (cache : U.Cache)
+            → IsServed module_of (λ view. U.is_sound view cache) self.old.ready self.old.generations
+            → IfSome result (HasModules module_of) }
+    {
+        let latest = self.ready.get(&self.latest)?;
+        let difference = latest.mappings().len().abs_diff(mappings);
+        if mappings < LEAST_EXCHANGED || difference > MOST_DIFFERENT {
+            return None;
+        }
+        self.ready.remove(&self.latest)
     }
 
     /// Keeps a process as the one of the number of a process's mappings, which it has.
@@ -330,7 +372,34 @@ impl<U: ProcessUnwinder> Processes<U> {
             → IsServed module_of (λ view. U.is_sound view cache) self.new.ready self.new.generations) }
         ensures refused { IfErr result (λ error. error ≡ OutOfMemory) }
     {
+        self.latest = number;
         self.ready.insert(number, process)?;
         Ok(())
+    }
+}
+
+/// Returns a process with these mappings, and an unwinder with their modules, of the next generation: one that has exchanged its
+/// own for them, if one is given.
+fn process_with<U: ProcessUnwinder, M: ModuleMaker<U>>(
+    alloc: Global,
+    maker: &M,
+    near: Option<Process<U>>,
+    mappings: &SharedMappings,
+    generations: &mut Generations,
+) -> Result<Process<U>, ProcessesError>
+where
+    U::Module: Drop,
+    requires { IfSome near (HasModules (M.module_of maker.now)) }
+    ensures served { IfOk result (λ made. HasModules (M.module_of maker.now) made) }
+    ensures mapped { IfOk result (λ made. made.mappings ≡ mappings.now) }
+    ensures drawn { IfOk result (λ made. (made.unwinder.generation ≡ generations.old)
+        × (generations.new ≡ generations.old + 1)) }
+    ensures refused { IfErr result (λ error. ((error ≡ ProcessesError.EmptyMapping) → ⊥)
+        × ((error ≡ ProcessesError.GenerationsExhausted) → (generations.old ≡ 2 ^ 64 - 1))) }
+    ensures never_back { (generations.old ≤ generations.new) × (generations.new ≤ generations.old + 1) }
+{
+    match near {
+        Some(near) => near.exchanged(alloc, maker, mappings, generations),
+        None => Process::with_mappings(alloc, maker, mappings, generations),
     }
 }

@@ -255,6 +255,7 @@ where
         mask: u64,
         out: &mut Output<W>,
     ) -> Result<(), StacksError>
+        requires { IsServed (M.module_of input.now.maker.now) (λ view. U.is_sound view self.old.cache) self.old.processes.ready self.old.processes.generations }
         ensures served { OnOk result (IsServed (M.module_of input.now.maker.now) (λ view. U.is_sound view self.old.cache) self.old.processes.ready self.old.processes.generations
             → IsServed (M.module_of input.now.maker.now) (λ view. U.is_sound view self.new.cache) self.new.processes.ready self.new.processes.generations) }
         ensures counted { OnOk result (CountsMore input.now.options.frames 1 self.old.counts self.new.counts) }
@@ -284,6 +285,7 @@ where
         record: Record<'_>,
         out: &mut Output<W>,
     ) -> Result<(), StacksError>
+        requires { IsServed (M.module_of input.now.maker.now) (λ view. U.is_sound view self.old.cache) self.old.processes.ready self.old.processes.generations }
         ensures served { OnOk result (IsServed (M.module_of input.now.maker.now) (λ view. U.is_sound view self.old.cache) self.old.processes.ready self.old.processes.generations
             → IsServed (M.module_of input.now.maker.now) (λ view. U.is_sound view self.new.cache) self.new.processes.ready self.new.processes.generations) }
         ensures counted { OnOk result (CountsMore input.now.options.frames 1 self.old.counts self.new.counts) }

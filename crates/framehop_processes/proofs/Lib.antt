@@ -1,3 +1,4 @@
 -- Lemmas of this crate.
 mod MappingLemmas
 mod AddressLemmas
+mod ExchangeLemmas

@@ -7,12 +7,16 @@
 //!   of its module, and not its offset in the file.
 //! - A change is made to a copy of the unwinder, so a refusal leaves the process as it was;
 //!   `Process::mapped` takes the process and copies none.
+//! - `Process::exchanged` goes through both lists of mappings, and makes the modules of those that
+//!   one has and the other has not. To skip what trees of mappings share, a proof would have to
+//!   know that two pointers to one place have one value, which no clause of `Rc` says.
 //! - Modules are made by a trait (`ModuleMaker`), so that this crate knows no file format. Mappings
 //!   that can't be executed are not to be given.
 #![tactic(auto)]
 
 mod around;
 pub mod error;
+mod exchange;
 pub mod maker;
 pub mod mapping;
 mod modules;

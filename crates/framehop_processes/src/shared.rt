@@ -126,7 +126,7 @@ impl SharedMappings {
         ensures value { IfOk result (λ list. list.items ≡ self.now) }
         ensures ordered { IsInOrder 0 self.now }
     {
-        let mut list = Vec::new(alloc);
+        let mut list = Vec::with_capacity(alloc, self.tree.len())?;
         self.tree.append_to(&mut list)?;
         Ok(list)
     }

@@ -1,6 +1,11 @@
 //! The stacks of core files.
+ghost use Rattle.std.specs.Prelude.{◌≡◌};
+ghost use Rattle.framehop_stacks_cli.specs.Cores.{stack_pointer};
+
+use crate::form::Form;
+use crate::misuse::misuse_of_kind;
 use crate::output::{print_end, status_of_dump};
-use crate::request::{Form, Request, misuse_of, refuse_file};
+use crate::request::{Request, refuse_file};
 use crate::sources::Sources;
 use framehop_cli::{Result, StandardOutput};
 use framehop_coredump::core_file::Machine;
@@ -38,7 +43,7 @@ pub fn print_core_parts(request: Request<'_, '_>, path: &str) -> Result<Option<u
     let Ok(Some(mut core)) = CoreParts::open(request.rt, path) else {
         return Ok(None);
     };
-    match misuse_of(Kind::Core, request.options, request.form) {
+    match misuse_of_kind(Kind::Core, request.options, request.form) {
         Some(misuse) => Ok(Some(refuse_file(request.rt, path, misuse, 2)?)),
         None => print_by_rounds(request, path, &mut core),
     }
@@ -114,7 +119,9 @@ fn note_stack_pointers(dump: &Dump<'_>, left_out: &LeftOut) {
 }
 
 /// Returns the stack pointer (AVMA) of a thread of a core file, if it has its registers.
-fn stack_pointer(machine: Machine, registers: Registers<'_>) -> Option<u64> {
+fn stack_pointer(machine: Machine, registers: Registers<'_>) -> Option<u64>
+    ensures { result ≡ stack_pointer machine registers.entry }
+{
     let Registers::Kernel { values, pac_mask } = registers else {
         return None;
     };

@@ -1,8 +1,14 @@
 //! The events of a recording that are asked for.
-use framehop_cli::{Printed, Result};
+ghost use Rattle.std.specs.Prelude.{◌≡◌, ◌^◌, map, option_map, IfOk};
+ghost use Rattle.std.specs.Result.{result_map_both};
+ghost use Rattle.framehop_stacks_cli.specs.CommandLine.{number_below};
+ghost use Rattle.framehop_stacks_cli.specs.Events.{events_asked, events_by, events_of, names_in};
+
+use framehop_cli::{Failure, Printed, Result};
 use framehop_disk::messages::Messages;
 use framehop_frames::line::{printed_name, push_name};
 use framehop_perf_stacks::event_choice::events_asked;
+use framehop_recording::error::RecordingError;
 use framehop_recording::event_names::read_event_names;
 use framehop_recording::header::Header;
 use std::alloc::{AllocError, Global};
@@ -16,46 +22,71 @@ pub fn numbers_of_events(
     bytes: &[u8],
     header: Option<&Header>,
     asked: &[&str],
-) -> Result<Option<Vec<usize>>> {
+) -> Result<Option<Vec<usize>>>
+    ensures { IfOk result (λ numbers. option_map (λ list. list.items) numbers
+        ≡ events_asked bytes.now (option_map (λ header. header.now) header.entry) (map (λ word. word.now) asked.now)) }
+{
     let alloc = rt.alloc();
-    match header {
-        Some(header) if !asked.is_empty() => match read_event_names(alloc, bytes, header) {
-            Ok(names) => numbers_by_names(rt, path, names.as_slice(), asked),
-            Err(_) => numbers_by_names(rt, path, &[], asked),
-        },
-        _ => Ok(Some(Vec::new(alloc))),
+    let Some(header) = header else {
+        return Ok(Some(Vec::new(alloc)));
+    };
+    if asked.is_empty() {
+        return Ok(Some(Vec::new(alloc)));
     }
-}
-
-/// Returns the numbers of the events that are asked for, of those of a recording.
-fn numbers_by_names(
-    rt: &HostRuntime,
-    path: &str,
-    names: &[&[u8]],
-    asked: &[&str],
-) -> Result<Option<Vec<usize>>> {
-    let alloc = rt.alloc();
-    let mut numbers = Vec::new(alloc);
-    for wanted in asked {
-        if !push_numbers(alloc, names, wanted, &mut numbers)? {
-            tell_events(rt, path, wanted, names)?;
-            return Ok(None);
+    let names = names_in(alloc, bytes, header)?;
+    match numbers_by_words(alloc, names.as_slice(), asked)? {
+        Ok(numbers) => Ok(Some(numbers)),
+        Err(word) => {
+            tell_events(rt, path, word, names.as_slice())?;
+            Ok(None)
         }
     }
-    Ok(Some(numbers))
 }
 
-/// Appends the numbers of the events of a name, or that of a number. Returns whether there are some.
-fn push_numbers(
+/// Returns the names of a recording's events: none where they can't be read.
+fn names_in<'a>(alloc: Global, bytes: &'a [u8], header: &Header) -> Result<Vec<&'a [u8]>>
+    ensures { IfOk result (λ names. map (λ name. name.now) names.items ≡ names_in bytes.entry.now header.now) }
+{
+    match read_event_names(alloc, bytes, header) {
+        Ok(names) => Ok(names),
+        Err(RecordingError::OutOfMemory) => Err(Failure::OutOfMemory),
+        Err(_) => Ok(Vec::new(alloc)),
+    }
+}
+
+/// Returns the numbers of the events that words ask for, of events with these names; or the first word for which there are none.
+fn numbers_by_words<'w>(
     alloc: Global,
     names: &[&[u8]],
-    wanted: &str,
-    numbers: &mut Vec<usize>,
-) -> Result<bool, AllocError> {
-    let number = wanted.parse::<usize>().ok();
-    let found = events_asked(alloc, names, wanted.as_bytes(), number)?;
-    numbers.extend_from_slice(found.as_slice())?;
-    Ok(!found.is_empty())
+    words: &[&'w str],
+) -> Result<Result<Vec<usize>, &'w str>, AllocError>
+    ensures { IfOk result (λ numbers. result_map_both (λ list. list.items) (λ word. word.now) numbers
+        ≡ events_of (map (λ name. name.now) names.now) (map (λ word. word.now) words.entry.now)) }
+{
+    let mut numbers = Vec::new(alloc);
+    for word in words {
+        let found = numbers_by(alloc, names, word)?;
+        if found.is_empty() {
+            return Ok(Err(*word));
+        }
+        numbers.extend_from_slice(found.as_slice())?;
+    }
+    Ok(Ok(numbers))
+}
+
+/// Returns the numbers of the events that a word asks for, by their name or by a number.
+#[tactic(auto, unfolding(crate::specs::Events::events_by))]
+fn numbers_by(alloc: Global, names: &[&[u8]], word: &str) -> Result<Vec<usize>, AllocError>
+    ensures { IfOk result (λ numbers. numbers.items ≡ events_by (map (λ name. name.now) names.now) word.now) }
+{
+    events_asked(alloc, names, word.as_bytes(), number_in(word))
+}
+
+/// Returns the number that a word is, if it is one below 2^64.
+fn number_in(word: &str) -> Option<usize>
+    ensures { result ≡ number_below (2 ^ 64) word.now }
+{
+    word.parse::<usize>().ok()
 }
 
 /// Says that a recording has no such event, and which it has.

@@ -1,10 +1,13 @@
 //! The files of the command line, one after another.
 use crate::cores::{print_core, print_core_parts};
 use crate::folded::add_folded;
+use crate::form::{Form, are_folded};
 use crate::minidumps::print_minidump;
+use crate::misuse::misuse_of_kind;
 use crate::output::{print_changed, print_folded};
 use crate::recordings::{print_recording, print_recording_parts};
-use crate::request::{Form, Request, misuse_of, refuse, refuse_file};
+use crate::request::{Request, refuse, refuse_file};
+use crate::statuses::greatest_status;
 use framehop_cli::Result;
 use framehop_disk::input::{Kind, kind_of, name_of, read_input};
 use framehop_disk::listing::{Listed, files_at, is_recording_by_threads};
@@ -15,20 +18,12 @@ use framehop_folded::folded::Folded;
 /// Prints the stacks of all files, those of recordings last, where they are folded. Returns the greatest status.
 pub fn print_all(request: Request<'_, '_>, paths: &[&str]) -> Result<u8> {
     let mut folded = Folded::new(request.rt.alloc());
-    let status = add_paths(request, paths, &mut folded)?;
-    if request.options.frames || matches!(request.form, Form::Json) {
-        return Ok(status);
+    let status = greatest_status(paths, |path| print_path(request, path, &mut folded))?;
+    if are_folded(request.options, request.form) {
+        Ok(status.max(print_folded(request, &folded)?))
+    } else {
+        Ok(status)
     }
-    Ok(status.max(print_folded(request, &folded)?))
-}
-
-/// Prints the stacks of files, or adds them to the folded stacks so far. Returns the greatest status.
-fn add_paths(request: Request<'_, '_>, paths: &[&str], folded: &mut Folded) -> Result<u8> {
-    let mut status = 0;
-    for path in paths {
-        status = status.max(print_path(request, path, folded)?);
-    }
-    Ok(status)
 }
 
 /// Prints the folded stacks of two files or folders beside one another, or draws them, if both can be read to their ends.
@@ -73,11 +68,10 @@ fn print_listed(
     if files.paths.is_empty() {
         return refuse_folder(request.rt, path);
     }
-    let mut status = 0;
-    for file in &files.paths {
-        status = status.max(print_stacks(request, file, folded)?);
-    }
-    Ok(status)
+    greatest_status(
+        files.paths.as_slice(),
+        |file| print_stacks(request, file.as_str(), folded),
+    )
 }
 
 /// Says how many files of a folder are left out, if some are.
@@ -129,7 +123,7 @@ fn print_bytes(
     folded: &mut Folded,
 ) -> Result<u8> {
     let (rt, kind) = (request.rt, kind_of(bytes));
-    if let Some(misuse) = misuse_of(kind, request.options, request.form) {
+    if let Some(misuse) = misuse_of_kind(kind, request.options, request.form) {
         return refuse_misused(rt, path, kind, bytes, misuse);
     }
     match kind {

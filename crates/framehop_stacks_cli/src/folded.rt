@@ -1,5 +1,9 @@
 //! Folded stacks as they are read.
-use crate::request::refuse_file;
+ghost use Rattle.std.specs.Prelude.{◌≡◌, IfOk};
+ghost use Rattle.framehop_stacks_cli.specs.Statuses.{text_status};
+ghost use Rattle.framehop_stacks_cli.specs.Stacks.{Merges};
+
+use crate::request::{refuse_file, refuse_file_by};
 use framehop_cli::Result;
 use framehop_disk::printed::printed_text;
 use framehop_folded::error::{FoldedError, TextError};
@@ -28,7 +32,7 @@ fn add_lines(
     let mut added = Folded::new(rt.alloc());
     match count_lines(rt.alloc(), lines, &mut added)? {
         Ok(()) => merge(rt, path, added, folded),
-        Err(error) => refuse_count(rt, path, error),
+        Err(error) => refuse_file_by(rt, path, error),
     }
 }
 
@@ -48,24 +52,19 @@ fn count_lines(
 }
 
 /// Adds folded stacks to those so far, or says why they can't be added.
-pub fn merge(rt: &HostRuntime, path: &str, added: Folded, folded: &mut Folded) -> Result<u8> {
+pub fn merge(rt: &HostRuntime, path: &str, added: Folded, folded: &mut Folded) -> Result<u8>
+    ensures { IfOk result (λ status. Merges added folded.old folded.new status) }
+{
     match folded.merge(added) {
         Ok(()) => Ok(0),
-        Err(error) => refuse_count(rt, path, error),
+        Err(error) => refuse_file_by(rt, path, error),
     }
 }
 
-/// Says why the counts of folded stacks can't be added.
-fn refuse_count(rt: &HostRuntime, path: &str, error: FoldedError) -> Result<u8> {
-    let status = match error {
-        FoldedError::OutOfMemory => 2,
-        FoldedError::CountTooLarge => 1,
-    };
-    refuse_file(rt, path, error, status)
-}
-
 /// Says which line of a text is no folded stack, and why.
-fn refuse_line(rt: &HostRuntime, path: &str, text: &[u8], error: TextError) -> Result<u8> {
+fn refuse_line(rt: &HostRuntime, path: &str, text: &[u8], error: TextError) -> Result<u8>
+    ensures { IfOk result (λ status. status ≡ text_status error) }
+{
     match error {
         TextError::NoCount(offset) => {
             refuse_at(rt, path, text, offset, "it has no blank before a count")
@@ -74,12 +73,14 @@ fn refuse_line(rt: &HostRuntime, path: &str, text: &[u8], error: TextError) -> R
             let cause = "after its last blank there is no decimal count below 2^64";
             refuse_at(rt, path, text, offset, cause)
         }
-        TextError::OutOfMemory => refuse_file(rt, path, error, 2),
+        TextError::OutOfMemory => refuse_file_by(rt, path, error),
     }
 }
 
 /// Says that the line at an offset of a text is no folded stack, and why.
-fn refuse_at(rt: &HostRuntime, path: &str, text: &[u8], offset: usize, cause: &str) -> Result<u8> {
+fn refuse_at(rt: &HostRuntime, path: &str, text: &[u8], offset: usize, cause: &str) -> Result<u8>
+    ensures { IfOk result (λ status. status ≡ 1) }
+{
     let line = line_number(text, offset);
     let why = format_args!("line {line} is no folded stack: {cause}");
     refuse_file(rt, path, why, 1)

@@ -1,4 +1,5 @@
 //! The names of the kernel's functions.
+use crate::command_line::word_of;
 use crate::request::refuse_file;
 use clap::ArgMatches;
 use framehop_cli::Result;
@@ -10,7 +11,7 @@ use std::io::ErrorKind;
 /// Returns the names of the kernel's functions, where a file of them is given: none where it is not. Says why it can't be
 /// read, if so, and returns `None`.
 pub fn kernel_names(rt: &HostRuntime, matches: &ArgMatches<'_>) -> Result<Option<KernelNames>> {
-    match matches.get_str("kallsyms") {
+    match word_of(matches, "kallsyms") {
         Some(path) => read_names(rt, path),
         None => Ok(Some(KernelNames::new(rt.alloc()))),
     }

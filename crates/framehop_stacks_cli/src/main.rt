@@ -3,38 +3,44 @@
 #![tactic(auto)]
 
 mod arguments;
+mod command_line;
 mod cores;
 mod events;
 mod files;
 mod folded;
+mod form;
 mod kernel;
 mod minidumps;
 mod misuse;
+mod options;
 mod output;
 mod recording_json;
 mod recording_parts;
 mod recordings;
 mod request;
+mod samples;
 mod sources;
 mod speedscope;
+mod statuses;
 
-use arguments::{Asked, command, form, options, samples_asked};
+use arguments::command;
 use clap::ArgMatches;
+use command_line::{is_given, word_of, words_of};
 use files::{print_all, print_changes};
+use form::form_asked;
 use framehop_cli::{Result, exit_code, usage};
-use framehop_disk::disk::{Disk, Program};
+use framehop_disk::disk::Program;
 use framehop_disk::input::read_input;
-use framehop_disk::known_names::KnownNames;
 use framehop_disk::messages::say_of;
-use framehop_disk::read_paths::ReadPaths;
 use framehop_perf_stacks::kernel::KernelNames;
 use framehop_perf_stacks::run::Options;
 use kernel::kernel_names;
 use misuse::misuse_of_options;
+use options::options;
 use request::{Request, refuse, refuse_file};
+use samples::{Asked, samples_asked};
 use sources::Sources;
 use std::cell::Cell;
-use std::path::PathBuf;
 use std::process::ExitCode;
 use std::{env, fs};
 
@@ -80,7 +86,7 @@ fn run_options<'w>(
     options: Options<'_>,
     asked: &Asked<'w>,
 ) -> Result<u8> {
-    if let Some(folder) = matches.get_str("perf-map")
+    if let Some(folder) = word_of(matches, "perf-map")
         && !is_folder(rt, folder)
     {
         return refuse_file(rt, folder, "no folder", 1);
@@ -88,7 +94,7 @@ fn run_options<'w>(
     if let Some(misuse) = misuse_of_options(matches, options) {
         return refuse(rt, misuse, 2);
     }
-    match matches.get_str("exec") {
+    match word_of(matches, "exec") {
         Some(path) => match read_input(rt, path)? {
             Ok(bytes) => {
                 let is_mapped = Cell::new(false);
@@ -113,27 +119,13 @@ fn run_with_program<'a, 'w>(
     asked: &'a Asked<'w>,
     program: Option<Program<'w>>,
 ) -> Result<u8> {
-    let disk = Disk {
-        rt,
-        roots: matches.get_strs("root").unwrap_or(&[""]),
-        debug_dirs: matches.get_strs("debug-dir").unwrap_or(&[]),
-        buildid_dir: matches.get_str("buildid-dir"),
-        home: home(rt),
-        vdso: matches.get_str("vdso"),
-        program,
-        known_names: KnownNames::new(rt.alloc()),
-        read_paths: ReadPaths::new(rt.alloc()),
-    };
-    let sources = Sources {
-        disk,
-        perf_map: perf_map(matches),
-    };
+    let sources = Sources::new(rt, matches, program);
     let request = Request {
         rt,
         sources: &sources,
         asked,
         options,
-        form: form(matches),
+        form: form_asked(matches),
     };
     let status = print_paths(request, matches)?;
     tell_unmapped(rt, sources.disk.program.as_ref())?;
@@ -142,32 +134,17 @@ fn run_with_program<'a, 'w>(
 
 /// Prints what a request asks for, of the files of a command line.
 fn print_paths(request: Request<'_, '_>, matches: &ArgMatches<'_>) -> Result<u8> {
-    let paths = matches.get_strs("file").unwrap_or(&[]);
-    if matches.get_flag("diff") {
+    let paths = words_of(matches, "file");
+    if is_given(matches, "diff") {
         print_changes(request, paths)
     } else {
         print_all(request, paths)
     }
 }
 
-/// Returns the folder of the maps that JIT compilers write: the one that is named, or where they write them on this machine,
-/// if its files are those that are looked for.
-fn perf_map<'a>(matches: &ArgMatches<'a>) -> Option<&'a str> {
-    match (matches.get_str("perf-map"), matches.get_str("root")) {
-        (Some(folder), _) => Some(folder),
-        (None, None) => Some("/tmp"),
-        (None, Some(_)) => None,
-    }
-}
-
 /// Returns whether a path is that of a folder.
 fn is_folder(rt: &HostRuntime, path: &str) -> bool {
     fs::metadata(rt, path).is_ok_and(|metadata| metadata.is_dir())
-}
-
-/// Returns the home folder, if it is known.
-fn home(rt: &HostRuntime) -> Option<PathBuf> {
-    env::home_dir(rt).ok()?
 }
 
 /// Says that the file of the main program was taken for no mapped file, if one is named and it was not.

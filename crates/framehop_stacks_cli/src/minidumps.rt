@@ -1,6 +1,7 @@
 //! The stacks of minidumps.
+use crate::form::Form;
 use crate::output::print_end;
-use crate::request::{Form, Request};
+use crate::request::Request;
 use crate::sources::Sources;
 use framehop_cli::{Result, StandardOutput};
 use framehop_dump_stacks::error::DumpStacksError;

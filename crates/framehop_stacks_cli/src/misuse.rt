@@ -1,8 +1,11 @@
-//! Which options do not go together.
+//! Which options do not go together, or not with a kind of file.
 ghost use Rattle.std.specs.Prelude.{◌≡◌, option_map};
-ghost use Rattle.framehop_stacks_cli.specs.Misuse.{misuse_of};
+ghost use Rattle.framehop_stacks_cli.specs.Misuse.{given_by, misuse_of, misuse_of_kind};
 
+use crate::command_line::{is_given, word_of};
+use crate::form::Form;
 use clap::ArgMatches;
+use framehop_disk::input::Kind;
 use framehop_perf_stacks::run::Options;
 
 /// The options that are given, of those that do not go with others.
@@ -25,21 +28,30 @@ struct Given {
 }
 
 /// Returns which options do not go together, if some do not.
-pub fn misuse_of_options(matches: &ArgMatches<'_>, options: Options<'_>) -> Option<&'static str> {
-    misuse_of(Given {
+pub fn misuse_of_options(matches: &ArgMatches<'_>, options: Options<'_>) -> Option<&'static str>
+    ensures { option_map (λ text. text.now) result ≡ misuse_of (given_by matches.now options.entry) }
+{
+    misuse_of(given_by(matches, options))
+}
+
+/// Returns the options that are given, of those that do not go with others.
+fn given_by(matches: &ArgMatches<'_>, options: Options<'_>) -> Given
+    ensures { result ≡ given_by matches.now options.entry }
+{
+    Given {
         by_thread: options.by_thread,
-        demangle: matches.get_flag("demangle"),
-        diff: matches.get_flag("diff"),
+        demangle: is_given(matches, "demangle"),
+        diff: is_given(matches, "diff"),
         explain: options.explain,
         frames: options.frames,
         json: options.json,
         kernel: options.kernel.is_some(),
-        lines: matches.get_flag("inlines") || matches.get_flag("lines"),
-        speedscope: matches.get_flag("speedscope"),
+        lines: is_given(matches, "inlines") || is_given(matches, "lines"),
+        speedscope: is_given(matches, "speedscope"),
         sure: options.sure,
-        svg: matches.get_flag("svg"),
-        title: matches.get_str("title").is_some(),
-    })
+        svg: is_given(matches, "svg"),
+        title: word_of(matches, "title").is_some(),
+    }
 }
 
 /// Returns the first of the texts of options that do not go together, if some do not.
@@ -74,5 +86,24 @@ fn misuse_of(given: Given) -> Option<&'static str>
         Some("JSON has all frames of the user's side, with how each was found, and no notes")
     } else {
         None
+    }
+}
+
+/// Returns why a file of a kind is not printed as it is asked for, if so.
+pub fn misuse_of_kind(kind: Kind, options: Options<'_>, form: Form<'_>) -> Option<&'static str>
+    ensures { option_map (λ text. text.now) result ≡ misuse_of_kind kind options.entry form.entry }
+{
+    match (kind, form) {
+        (Kind::Core | Kind::Minidump, Form::Graph(_) | Form::Speedscope(_)) => {
+            Some("only recordings and folded stacks are drawn")
+        }
+        (Kind::Core | Kind::Minidump, Form::Changes) => {
+            Some("only recordings and folded stacks are compared")
+        }
+        (Kind::Folded, Form::Json) => Some("folded stacks have no addresses, and no JSON"),
+        (Kind::Core | Kind::Minidump, _) if options.sure => { Some("only recordings are folded") }
+        (Kind::Folded, _) if options.frames => Some("folded stacks have no blocks of frames"),
+        (Kind::Folded, _) if options.sure => Some("folded stacks don't say what is sure"),
+        _ => None,
     }
 }

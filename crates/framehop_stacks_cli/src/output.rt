@@ -1,5 +1,9 @@
 //! What is printed, and the status for it.
-use crate::request::{Form, Request, refuse, refuse_file};
+ghost use Rattle.std.specs.Prelude.{◌≡◌, ◌⊎◌, IfOk, IfErr, MatchResult};
+ghost use Rattle.framehop_stacks_cli.specs.Statuses.{dump_status, graph_status, stacks_status, status_after};
+
+use crate::form::Form;
+use crate::request::{Request, refuse_by, refuse_file_by};
 use crate::speedscope::speedscope_file;
 use framehop_cli::{Result, StandardOutput};
 use framehop_disk::messages::Messages;
@@ -27,7 +31,7 @@ pub fn print_folded(request: Request<'_, '_>, folded: &Folded) -> Result<u8> {
 fn print_speedscope(request: Request<'_, '_>, folded: &Folded, title: &str) -> Result<u8> {
     let rt = request.rt;
     if folded.iter().next().is_none() {
-        return refuse(rt, FlameGraphError::NothingCounted, 1);
+        return refuse_by(rt, FlameGraphError::NothingCounted);
     }
     let file = speedscope_file(rt.alloc(), folded, title, request.options.by_thread)?;
     status_of(rt, write_text(rt, file.as_str()))
@@ -43,11 +47,12 @@ pub fn print_changed(request: Request<'_, '_>, changes: &Changes) -> Result<u8> 
 }
 
 /// Prints a flame graph, or why there is none, and returns the status.
-fn print_graph(rt: &HostRuntime, graph: Result<String, FlameGraphError>) -> Result<u8> {
+fn print_graph(rt: &HostRuntime, graph: Result<String, FlameGraphError>) -> Result<u8>
+    ensures { IfOk result (λ status. IfErr graph (λ error. status ≡ graph_status error)) }
+{
     match graph {
         Ok(graph) => status_of(rt, write_text(rt, graph.as_str())),
-        Err(FlameGraphError::OutOfMemory) => refuse(rt, FlameGraphError::OutOfMemory, 2),
-        Err(error) => refuse(rt, error, 1),
+        Err(error) => refuse_by(rt, error),
     }
 }
 
@@ -74,11 +79,12 @@ fn write_changes(rt: &HostRuntime, changes: &Changes) -> Result<(), StacksError>
 }
 
 /// Returns the status for what was written, and prints why it was not, if so.
-fn status_of(rt: &HostRuntime, written: Result<(), StacksError>) -> Result<u8> {
+fn status_of(rt: &HostRuntime, written: Result<(), StacksError>) -> Result<u8>
+    ensures { IfOk result (λ status. status ≡ status_after stacks_status written) }
+{
     match written {
         Ok(()) => Ok(0),
-        Err(StacksError::OutOfMemory) => refuse(rt, StacksError::OutOfMemory, 2),
-        Err(error) => refuse(rt, error, 1),
+        Err(error) => refuse_by(rt, error),
     }
 }
 
@@ -89,7 +95,9 @@ pub fn print_end<W: Write>(
     out: &mut Output<W>,
     said: &[u8],
     written: Result<(), DumpStacksError>,
-) -> Result<u8> {
+) -> Result<u8>
+    ensures { IfOk result (λ status. MatchResult written (λ done. (status ≡ 0) ⊎ (status ≡ 1)) (λ error. status ≡ dump_status error)) }
+{
     let flushed = io::Write::flush(out);
     Messages { rt }.write_all(said)?;
     match (written, flushed) {
@@ -103,17 +111,11 @@ pub fn status_of_dump(
     rt: &HostRuntime,
     path: &str,
     written: Result<(), DumpStacksError>,
-) -> Result<u8> {
+) -> Result<u8>
+    ensures { IfOk result (λ status. status ≡ status_after dump_status written) }
+{
     match written {
         Ok(()) => Ok(0),
-        Err(error) => refuse_file(rt, path, error, status_of_refusal(error)),
-    }
-}
-
-/// Returns the status for a core file or a minidump that is refused: 2 where memory or generations run out, else 1.
-fn status_of_refusal(error: DumpStacksError) -> u8 {
-    match error {
-        DumpStacksError::OutOfMemory | DumpStacksError::GenerationsExhausted => 2,
-        _ => 1,
+        Err(error) => refuse_file_by(rt, path, error),
     }
 }

@@ -1,4 +1,9 @@
 //! Recordings that are read in parts: first all but the bodies of samples, and each of these when its sample is unwound.
+ghost use Rattle.std.specs.Prelude.{◌≡◌, ◌++◌, length, map, IfOk, OnOk};
+ghost use Rattle.framehop_recording.specs.Attributes.{attribute_view};
+ghost use Rattle.framehop_recording.specs.Records.{record_view, run_of};
+ghost use Rattle.framehop_stacks_cli.specs.RecordingParts.{after_records, body_size, is_read_in_parts, kept_from, whole, whole_records};
+
 use framehop_perf_stacks::kept::KeptRecords;
 use framehop_perf_stacks::sample_source::SampleSource;
 use framehop_recording::error::RecordingError;
@@ -49,7 +54,7 @@ impl RecordingParts {
     /// of a small one, and of one that is not as `perf record` writes it: such a file is read whole.
     pub fn open(rt: &HostRuntime, path: &str) -> io::Result<Option<RecordingParts>> {
         let metadata = fs::metadata(rt, path)?;
-        if !metadata.is_file() || metadata.len() < SMALLEST_FILE {
+        if !is_read_in_parts(metadata.is_file(), metadata.len()) {
             return Ok(None);
         }
         let file = File::open(rt, path)?;
@@ -136,16 +141,34 @@ fn keep_records(
     at: u64,
     is_last: bool,
     kept: &mut KeptRecords,
-) -> io::Result<Option<u64>> {
+) -> io::Result<Option<u64>>
+    ensures kept { OnOk result (kept.new
+        ≡ kept.old ++ kept_from (map attribute_view events.now.attributes.items) at (run_of piece.now (whole piece.now)).records) }
+    ensures taken { IfOk result (λ taken. taken ≡ whole_records (length piece.now) is_last (run_of piece.now (whole piece.now)).refusal) }
+{
     let size = piece.len() as u64;
     let Ok(read) = read_records(alloc, piece, Section { offset: 0, size }) else {
         return Err(ErrorKind::OutOfMemory.into());
     };
-    for record in &read.records {
+    keep_each(alloc, events, read.records.as_slice(), at, kept)?;
+    Ok(size_of_whole_records(size, is_last, read.refusal))
+}
+
+/// Keeps records of a piece, which is at an offset.
+fn keep_each(
+    alloc: Global,
+    events: &Events<'_>,
+    records: &[Record<'_>],
+    at: u64,
+    kept: &mut KeptRecords,
+) -> Result<(), AllocError>
+    ensures { OnOk result (kept.new ≡ kept.old ++ kept_from (map attribute_view events.now.attributes.items) at (map record_view records.now)) }
+{
+    for record in records {
         let offset = at.saturating_add(record.offset);
         kept.push(alloc, events, Record { offset, ..*record })?;
     }
-    Ok(size_of_whole_records(size, is_last, read.refusal))
+    Ok(())
 }
 
 /// The bodies of a recording's samples in its file.
@@ -186,17 +209,32 @@ impl SampleBodies<'_> {
     fn read(&self, offset: u64, body: &mut Vec<u8>) -> io::Result<()> {
         let mut header = [0; RECORD_HEADER_SIZE];
         self.file.read_exact_at(&mut header, offset)?;
-        let [_, _, _, _, _, _, low, high] = header;
-        let size = usize::from(u16::from_le_bytes([low, high])).saturating_sub(RECORD_HEADER_SIZE);
-        body.resize(size, 0u8)?;
+        body.resize(body_size(&header), 0u8)?;
         let start = offset.saturating_add(RECORD_HEADER_SIZE as u64);
         self.file.read_exact_at(body.as_mut_slice(), start)
     }
 }
 
+/// Returns how many bytes the body of a record has, by its header.
+fn body_size(header: &[u8; RECORD_HEADER_SIZE]) -> usize
+    ensures { result ≡ body_size header.now }
+{
+    let [_, _, _, _, _, _, low, high] = *header;
+    usize::from(u16::from_le_bytes([low, high])).saturating_sub(RECORD_HEADER_SIZE)
+}
+
+/// Returns whether a file of a size is read in parts.
+fn is_read_in_parts(is_regular: bool, size: u64) -> bool
+    ensures { result ≡ is_read_in_parts is_regular size }
+{
+    is_regular && size >= SMALLEST_FILE
+}
+
 /// Returns how many bytes the whole records of a piece take, by the piece's size, whether it is the last, and the refusal at its
 /// end. `None` where a record is refused that is not only cut off by the end of the piece.
-fn size_of_whole_records(size: u64, is_last: bool, refusal: Option<RecordingError>) -> Option<u64> {
+fn size_of_whole_records(size: u64, is_last: bool, refusal: Option<RecordingError>) -> Option<u64>
+    ensures { result ≡ whole_records size is_last refusal }
+{
     match refusal {
         None => Some(size),
         Some(RecordingError::Eof { offset }) if !is_last && offset > 0 => Some(offset),
@@ -218,19 +256,33 @@ fn read_frame(
     size: u64,
     header: &Header,
 ) -> io::Result<Option<Vec<u8>>> {
-    let records = header.records;
-    let end = records.offset.saturating_add(records.size);
-    if end > size || size - end > LARGEST_FRAME || records.offset > LARGEST_FRAME {
+    let Some(rest) = after_records(header.records, size) else {
         return Ok(None);
-    }
-    let mut frame = read_at(alloc, file, 0, records.offset)?;
-    let after = read_at(alloc, file, end, size - end)?;
+    };
+    let mut frame = read_at(alloc, file, 0, header.records.offset)?;
+    let after = read_at(alloc, file, rest.offset, rest.size)?;
     frame.extend_from_slice(after.as_slice())?;
     if move_sections(frame.as_mut_slice(), header) {
         Ok(Some(frame))
     } else {
         Ok(None)
     }
+}
+
+/// Returns where what is after the records of a file of a size lies. `None` where the file ends before they do, or much is before or
+/// after them.
+fn after_records(records: Section, size: u64) -> Option<Section>
+    ensures { result ≡ after_records records size }
+{
+    let end = records.offset.checked_add(records.size)?;
+    let left = size.checked_sub(end)?;
+    if left > LARGEST_FRAME || records.offset > LARGEST_FRAME {
+        return None;
+    }
+    Some(Section {
+        offset: end,
+        size: left,
+    })
 }
 
 /// Moves the sections after the records of a recording to where they are without its records. Returns whether all of them are

@@ -1,10 +1,13 @@
 //! The stacks of recordings.
-use crate::arguments::Asked;
+ghost use Rattle.std.specs.Prelude.{◌≡◌, IfOk};
+ghost use Rattle.framehop_stacks_cli.specs.Stacks.{AddsStacks, ended_status};
+
 use crate::events::numbers_of_events;
 use crate::folded::merge;
+use crate::misuse::misuse_of_kind;
 use crate::recording_json::{write_json_of, write_recording_json};
 use crate::recording_parts::{RecordingParts, SampleBodies};
-use crate::request::{Request, misuse_of, refuse_file};
+use crate::request::{Request, refuse_file, refuse_file_by};
 use framehop_cli::{Result, StandardOutput};
 use framehop_disk::input::{Kind, announce};
 use framehop_disk::messages::Messages;
@@ -36,7 +39,7 @@ pub fn print_recording_parts(
     let Ok(Some(parts)) = RecordingParts::open(request.rt, path) else {
         return Ok(None);
     };
-    match misuse_of(Kind::Recording, request.options, request.form) {
+    match misuse_of_kind(Kind::Recording, request.options, request.form) {
         Some(misuse) => Ok(Some(refuse_file(request.rt, path, misuse, 2)?)),
         None => print_parts(request, path, &parts, folded),
     }
@@ -55,7 +58,7 @@ fn print_parts(
     let (frame, header) = parts.frame();
     match numbers_of_events(rt, path, frame, Some(header), asked.events.as_slice())? {
         Some(events) => {
-            let choice = choice_of(asked, events.as_slice());
+            let choice = asked.choice(events.as_slice());
             print_chosen(request, path, parts, &choice, folded)
         }
         None => Ok(Some(1)),
@@ -163,7 +166,7 @@ pub fn print_recording(
     let header = read_header(bytes).ok();
     match numbers_of_events(rt, path, bytes, header.as_ref(), asked.events.as_slice())? {
         Some(events) => {
-            let choice = choice_of(asked, events.as_slice());
+            let choice = asked.choice(events.as_slice());
             let stacks = write_bytes(request, bytes, &choice)?;
             add_stacks(rt, path, stacks, folded)
         }
@@ -191,19 +194,10 @@ fn write_bytes(request: Request<'_, '_>, bytes: &[u8], choice: &Choice<'_>) -> R
     Ok(stacks)
 }
 
-/// Returns the choice of the samples that are asked for, by the numbers of their events.
-fn choice_of<'a>(asked: &'a Asked<'_>, events: &'a [usize]) -> Choice<'a> {
-    Choice {
-        commands: asked.commands.as_slice(),
-        processes: asked.processes.as_slice(),
-        threads: asked.threads.as_slice(),
-        events,
-        window: asked.window,
-    }
-}
-
 /// Adds the folded stacks of a recording to those so far, and returns the status for how it ended.
-fn add_stacks(rt: &HostRuntime, path: &str, stacks: Stacks, folded: &mut Folded) -> Result<u8> {
+fn add_stacks(rt: &HostRuntime, path: &str, stacks: Stacks, folded: &mut Folded) -> Result<u8>
+    ensures { IfOk result (λ status. AddsStacks stacks folded.old folded.new status) }
+{
     match stacks {
         Ok(
             Unwound {
@@ -217,7 +211,7 @@ fn add_stacks(rt: &HostRuntime, path: &str, stacks: Stacks, folded: &mut Folded)
             }
             status_of(rt, path, ended)
         }
-        Err(error) => refuse(rt, path, error),
+        Err(error) => refuse_file_by(rt, path, error),
     }
 }
 
@@ -226,19 +220,12 @@ fn status_of(
     rt: &HostRuntime,
     path: &str,
     ended: Result<Option<RecordingError>, StacksError>,
-) -> Result<u8> {
+) -> Result<u8>
+    ensures { IfOk result (λ status. status ≡ ended_status ended) }
+{
     match ended {
         Ok(None) => Ok(0),
-        Ok(Some(refusal)) => refuse(rt, path, StacksError::Recording(refusal)),
-        Err(error) => refuse(rt, path, error),
+        Ok(Some(refusal)) => refuse_file_by(rt, path, StacksError::Recording(refusal)),
+        Err(error) => refuse_file_by(rt, path, error),
     }
-}
-
-/// Says why a recording gives no stacks, or no more of them, and returns the status.
-fn refuse(rt: &HostRuntime, path: &str, error: StacksError) -> Result<u8> {
-    let status = match error {
-        StacksError::OutOfMemory | StacksError::GenerationsExhausted => 2,
-        _ => 1,
-    };
-    refuse_file(rt, path, error, status)
 }

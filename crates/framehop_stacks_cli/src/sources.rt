@@ -1,11 +1,22 @@
 //! The files and the maps of JIT compilers by which stacks get their names.
-use framehop_disk::disk::{Disk, read_perf_map};
+ghost use Rattle.std.specs.Prelude.{◌≡◌, map, option_map, codes};
+ghost use Rattle.framehop_stacks_cli.specs.CommandLine.{word_of, words_of};
+ghost use Rattle.framehop_stacks_cli.specs.Options.{perf_map_of, roots_of};
+
+use crate::command_line::{word_of, words_of};
+use crate::options::perf_map;
+use clap::ArgMatches;
+use framehop_disk::disk::{Disk, Program, read_perf_map};
+use framehop_disk::known_names::KnownNames;
+use framehop_disk::read_paths::ReadPaths;
 use framehop_dump_stacks::json_report::PathSource;
 use framehop_frames::json_files::FilePaths;
 use framehop_perf_stacks::perf_map::MapSource;
 use framehop_symbols::files::{FileSource, Files};
 use framehop_symbols::read_refusal::ReadRefusal;
 use std::alloc::{AllocError, Global};
+use std::env;
+use std::path::PathBuf;
 
 /// The files of a disk, and the maps that JIT compilers write.
 #[derive(Drop)]
@@ -13,6 +24,50 @@ pub struct Sources<'a, 'w> {
     pub disk: Disk<'a, 'w>,
     /// The folder of the maps, if they are read.
     pub perf_map: Option<&'w str>,
+}
+
+impl<'a, 'w> Sources<'a, 'w> {
+    /// Returns the files and maps of the folders that a command line names, with a main program that was read.
+    pub fn new(
+        rt: &'a HostRuntime,
+        matches: &'a ArgMatches<'w>,
+        program: Option<Program<'w>>,
+    ) -> Self
+        ensures roots { map (λ folder. folder.now) result.disk.roots.now ≡ roots_of matches.entry.now }
+        ensures debug_dirs { map (λ folder. folder.now) result.disk.debug_dirs.now ≡ words_of matches.entry.now (codes "debug-dir") }
+        ensures buildid_dir { option_map (λ folder. folder.now) result.disk.buildid_dir ≡ word_of matches.entry.now (codes "buildid-dir") }
+        ensures vdso { option_map (λ file. file.now) result.disk.vdso ≡ word_of matches.entry.now (codes "vdso") }
+        ensures program { result.disk.program ≡ program.entry }
+        ensures perf_map { option_map (λ folder. folder.now) result.perf_map ≡ perf_map_of matches.entry.now }
+    {
+        Sources {
+            disk: Disk {
+                rt,
+                roots: roots(matches),
+                debug_dirs: words_of(matches, "debug-dir"),
+                buildid_dir: word_of(matches, "buildid-dir"),
+                home: home(rt),
+                vdso: word_of(matches, "vdso"),
+                program,
+                known_names: KnownNames::new(rt.alloc()),
+                read_paths: ReadPaths::new(rt.alloc()),
+            },
+            perf_map: perf_map(matches),
+        }
+    }
+}
+
+/// Returns the folders below which mapped files are looked for: the root of this machine where none is named.
+fn roots<'m, 'a: 'm>(matches: &'m ArgMatches<'a>) -> &'m [&'a str]
+    ensures { map (λ folder. folder.now) result.now ≡ roots_of matches.entry.now }
+{
+    let roots = words_of(matches, "root");
+    if roots.is_empty() { &[""] } else { roots }
+}
+
+/// Returns the home folder, if it is known.
+fn home(rt: &HostRuntime) -> Option<PathBuf> {
+    env::home_dir(rt).ok()?
 }
 
 impl FileSource for Sources<'_, '_> {

@@ -1,12 +1,138 @@
 //! Folded stacks as speedscope reads them.
-use framehop_cli::Result;
+ghost use Rattle.std.specs.Prelude.{ℕ, ◌≡◌, ◌≤◌, ◌==◌, ◌∷◌, [], List, length, map, IfOk, OnOk, false, string_bytes, unwrap_or, sum_by};
+ghost use Rattle.std.specs.Io.Iter.{u64_saturate};
+ghost use Rattle.std.specs.List.{position_or_len, slice_split};
+ghost use Rattle.serde_json.specs.View.{view};
+ghost use Rattle.serde_json.specs.Written.{compact_text};
+ghost use Rattle.framehop_folded.specs.Folded.{entries_of};
+ghost use Rattle.framehop_stacks_cli.specs.Speedscope.{stack_view, stack_of, stacks_of, names_of, number_in, with_name, with_names, names_among, frame_data, AreFrames, list_data, number_data, sample_data, profile_data, profile_with, file_data, file_of};
+
 use framehop_folded::folded::Folded;
-use serde_json::{Map, Number, Value, put};
-use std::alloc::Global;
+use serde_json::{Value, json};
+use std::alloc::{AllocError, Global};
 use std::collections::BTreeMap;
 
 /// The schema of the file.
 const SCHEMA: &str = "https://www.speedscope.app/file-format-schema.json";
+
+/// Returns folded stacks as a file of speedscope, in which each stack is a sample, whose weight is its count: one profile, or
+/// one for each thread, whose name is the outermost frame then, in the order of these.
+///
+/// Source: <https://www.speedscope.app/file-format-schema.json>, `SampledProfile`.
+pub fn speedscope_file(
+    alloc: Global,
+    folded: &Folded,
+    title: &str,
+    by_thread: bool,
+) -> Result<String, AllocError>
+    ensures { by_thread ≡ false → IfOk result (λ text. string_bytes text
+        ≡ compact_text (file_of title.now (stacks_of title.now by_thread (entries_of folded.now)))) }
+{
+    let stacks = stacks_of(alloc, folded, title, by_thread)?;
+    let frames = frames_of(alloc, stacks.as_slice())?;
+    let profiles = profiles_of(alloc, &frames, title, by_thread, stacks.as_slice())?;
+    let file = file_value(alloc, title, frames, profiles)?;
+    file.to_string(alloc)
+}
+
+/// Returns a file of frames and profiles.
+fn file_value(
+    alloc: Global,
+    title: &str,
+    frames: Frames,
+    profiles: Vec<Value>,
+) -> Result<Value, AllocError>
+    ensures { (names : List (List ℕ)) → AreFrames names frames
+        → IfOk result (λ value. view value ≡ file_data title.now names (map view profiles.items)) }
+{
+    let frames = Value::Array(frames.list);
+    let shared = json!(in alloc; {"frames": frames})?;
+    let profiles = Value::Array(profiles);
+    json!(in alloc; {
+        "$schema": SCHEMA,
+        "exporter": "framehop-stacks",
+        "name": title,
+        "activeProfileIndex": 0u64,
+        "shared": shared,
+        "profiles": profiles
+    })
+}
+
+// ---- stacks
+
+/// A folded stack of a profile.
+#[derive(Clone, Copy, Drop)]
+struct Stack<'a> {
+    /// The name of the profile.
+    profile: &'a [u8],
+    /// The names of its frames from the outermost on, joined by `;`.
+    frames: &'a [u8],
+    /// How often it was counted.
+    count: u64,
+}
+
+/// Returns folded stacks with the names of their profiles.
+fn stacks_of<'a>(
+    alloc: Global,
+    folded: &'a Folded,
+    title: &'a str,
+    by_thread: bool,
+) -> Result<Vec<Stack<'a>>, AllocError>
+    ensures { IfOk result (λ stacks. map stack_view stacks.items ≡ stacks_of title.entry.now by_thread (entries_of folded.entry.now)) }
+{
+    let mut stacks = Vec::new(alloc);
+    for (stack, count) in folded.iter() {
+        stacks.push(stack_of(title, by_thread, stack.as_slice(), *count))?;
+    }
+    Ok(stacks)
+}
+
+/// Returns a folded stack with the name of its profile: a title or, of a thread, the outermost frame.
+fn stack_of<'a>(title: &'a str, by_thread: bool, stack: &'a [u8], count: u64) -> Stack<'a>
+    ensures { stack_view result ≡ stack_of title.entry.now by_thread stack.entry.now count }
+{
+    if by_thread {
+        let size = thread_size(stack);
+        Stack {
+            profile: &stack[..size],
+            frames: stack.get(size + 1..).unwrap_or(&[]),
+            count,
+        }
+    } else {
+        Stack {
+            profile: title.as_bytes(),
+            frames: stack,
+            count,
+        }
+    }
+}
+
+/// Returns how long the outermost frame of a stack is, in bytes.
+fn thread_size(stack: &[u8]) -> usize
+    ensures size { result ≡ position_or_len (λ byte. byte == 59) stack.now }
+    ensures within { result ≤ length stack.now }
+{
+    stack.iter().take_while(|byte| **byte != b';').count()
+}
+
+/// Returns the names of a stack's frames, from the outermost on.
+fn names_of(alloc: Global, frames: &[u8]) -> Result<Vec<&[u8]>, AllocError>
+    ensures { IfOk result (λ names. map (λ name. name.now) names.items ≡ names_of frames.entry.now) }
+{
+    if frames.is_empty() {
+        return Ok(Vec::new(alloc));
+    }
+    split_names(alloc, frames)
+}
+
+/// Returns the names between `;`.
+fn split_names(alloc: Global, frames: &[u8]) -> Result<Vec<&[u8]>, AllocError>
+    ensures { IfOk result (λ names. map (λ name. name.now) names.items ≡ slice_split (λ byte. byte == 59) frames.entry.now) }
+{
+    frames.split(|byte| *byte == b';').collect(alloc)
+}
+
+// ---- frames
 
 /// The frames of stacks, each once, by the order in which they are met.
 #[derive(Drop)]
@@ -15,219 +141,212 @@ struct Frames {
     list: Vec<Value>,
 }
 
-impl Frames {
-    /// Returns the number of a frame, which is added where it is new.
-    fn number_of(&mut self, alloc: Global, name: &[u8]) -> Result<usize> {
-        match self.numbers.get(name) {
-            Some(number) => Ok(*number),
-            None => self.add(alloc, name),
-        }
-    }
-
-    /// Adds a frame, and returns its number.
-    fn add(&mut self, alloc: Global, name: &[u8]) -> Result<usize> {
-        let number = self.list.len();
-        self.list.push(frame_value(alloc, name)?)?;
-        self.numbers.insert(Vec::from_slice(alloc, name)?, number)?;
-        Ok(number)
-    }
-}
-
-/// Returns a frame as speedscope reads it.
-fn frame_value(alloc: Global, name: &[u8]) -> Result<Value> {
-    let name = String::from_utf8_lossy(alloc, name)?;
-    let mut members = Map::new(alloc);
-    put(&mut members, alloc, "name", Value::String(name))?;
-    Ok(Value::Object(members))
-}
-
-/// The samples of a profile: stacks as the numbers of their frames, and how often each was sampled.
-#[derive(Drop)]
-struct Profile {
-    samples: Vec<Value>,
-    weights: Vec<Value>,
-    total: u64,
-}
-
-impl Profile {
-    /// Returns a profile without samples.
-    fn new(alloc: Global) -> Self {
-        Profile {
-            samples: Vec::new(alloc),
-            weights: Vec::new(alloc),
-            total: 0,
-        }
-    }
-
-    /// Adds a stack that was sampled so often.
-    fn add(&mut self, stack: Value, count: u64) -> Result<()> {
-        self.samples.push(stack)?;
-        self.weights.push(Value::Number(Number::from(count)))?;
-        self.total = self.total.saturating_add(count);
-        Ok(())
-    }
-
-    /// Returns the profile, of this name, as speedscope reads it.
-    fn into_value(self, alloc: Global, name: &[u8]) -> Result<Value> {
-        let mut members = Map::new(alloc);
-        put_head(alloc, &mut members, name, self.total)?;
-        put(&mut members, alloc, "samples", Value::Array(self.samples))?;
-        put(&mut members, alloc, "weights", Value::Array(self.weights))?;
-        Ok(Value::Object(members))
-    }
-}
-
-/// Puts what a profile has besides its samples. The unit is `none`: a weight is a number of samples.
-fn put_head(
-    alloc: Global,
-    members: &mut Map<String, Value>,
-    name: &[u8],
-    total: u64,
-) -> Result<()> {
-    let name = String::from_utf8_lossy(alloc, name)?;
-    put_text(alloc, members, "type", "sampled")?;
-    put(members, alloc, "name", Value::String(name))?;
-    put_text(alloc, members, "unit", "none")?;
-    put_number(alloc, members, "startValue", 0)?;
-    put_number(alloc, members, "endValue", total)
-}
-
-/// Puts a text of a name.
-fn put_text(alloc: Global, members: &mut Map<String, Value>, name: &str, text: &str) -> Result<()> {
-    let text = String::from_str(alloc, text)?;
-    put(members, alloc, name, Value::String(text))?;
-    Ok(())
-}
-
-/// Puts a number of a name.
-fn put_number(
-    alloc: Global,
-    members: &mut Map<String, Value>,
-    name: &str,
-    number: u64,
-) -> Result<()> {
-    put(members, alloc, name, Value::Number(Number::from(number)))?;
-    Ok(())
-}
-
-/// Returns folded stacks as a file of speedscope, in which each stack is a sample, whose weight is its count: one profile, or
-/// one for each thread, whose name is the outermost frame then.
-///
-/// Source: <https://www.speedscope.app/file-format-schema.json>, `SampledProfile`.
-pub fn speedscope_file(
-    alloc: Global,
-    folded: &Folded,
-    title: &str,
-    by_thread: bool,
-) -> Result<String> {
+/// Returns the frames of stacks.
+fn frames_of(alloc: Global, stacks: &[Stack<'_>]) -> Result<Frames, AllocError>
+    ensures { IfOk result (AreFrames (names_among [] (map stack_view stacks.now))) }
+{
     let mut frames = Frames {
         numbers: BTreeMap::new(alloc),
         list: Vec::new(alloc),
     };
-    let profiles = profiles_of(alloc, &mut frames, folded, title, by_thread)?;
-    let file = file_value(alloc, title, frames.list, profiles)?;
-    Ok(file.to_string(alloc)?)
+    for stack in stacks {
+        frames.add_names(alloc, names_of(alloc, stack.frames)?.as_slice())?;
+    }
+    Ok(frames)
 }
 
-/// Returns a file of frames and profiles.
-fn file_value(
-    alloc: Global,
-    title: &str,
-    frames: Vec<Value>,
-    profiles: Vec<Value>,
-) -> Result<Value> {
-    let mut members = Map::new(alloc);
-    put_text(alloc, &mut members, "$schema", SCHEMA)?;
-    put_text(alloc, &mut members, "exporter", "framehop-stacks")?;
-    put_text(alloc, &mut members, "name", title)?;
-    put_number(alloc, &mut members, "activeProfileIndex", 0)?;
-    put(&mut members, alloc, "shared", shared_value(alloc, frames)?)?;
-    put(&mut members, alloc, "profiles", Value::Array(profiles))?;
-    Ok(Value::Object(members))
+impl Frames {
+    /// Adds those of some names that are not there.
+    fn add_names(&mut self, alloc: Global, others: &[&[u8]]) -> Result<(), AllocError>
+        ensures { (names : List (List ℕ)) → AreFrames names self.old
+            → OnOk result (AreFrames (with_names names (map (λ name. name.now) others.now)) self.new) }
+    {
+        for name in others {
+            self.add(alloc, name)?;
+        }
+        Ok(())
+    }
+
+    /// Adds the frame of a name, if it is not there.
+    #[tactic(auto, unfolding(crate::specs::Speedscope::with_name))]
+    fn add(&mut self, alloc: Global, name: &[u8]) -> Result<(), AllocError>
+        ensures { (names : List (List ℕ)) → AreFrames names self.old → OnOk result (AreFrames (with_name names name.now) self.new) }
+    {
+        if self.numbers.contains_key(name) {
+            return Ok(());
+        }
+        let number = self.list.len();
+        let frame = frame_value(alloc, name)?;
+        let name = Vec::from_slice(alloc, name)?;
+        self.list.push(frame)?;
+        self.numbers.insert(name, number)?;
+        Ok(())
+    }
+
+    /// Returns the number of a frame: 0 of one that is not there.
+    fn number(&self, name: &[u8]) -> usize
+        ensures { (names : List (List ℕ)) → AreFrames names self.now → result ≡ unwrap_or (number_in names name.now) 0 }
+    {
+        self.numbers.get(name).copied().unwrap_or(0)
+    }
 }
 
-/// Returns what the profiles of a file share: its frames.
-fn shared_value(alloc: Global, frames: Vec<Value>) -> Result<Value> {
-    let mut members = Map::new(alloc);
-    put(&mut members, alloc, "frames", Value::Array(frames))?;
-    Ok(Value::Object(members))
+/// Returns a frame as speedscope reads it.
+fn frame_value(alloc: Global, name: &[u8]) -> Result<Value, AllocError>
+    ensures { IfOk result (λ value. view value ≡ frame_data name.now) }
+{
+    let name = String::from_utf8_lossy(alloc, name)?;
+    json!(in alloc; {"name": name.as_str()})
 }
 
-/// Returns the profiles of folded stacks, by the names of their threads if there is one for each.
+// ---- profiles
+
+/// Returns the profiles of stacks: one, or one for each thread.
 fn profiles_of(
     alloc: Global,
-    frames: &mut Frames,
-    folded: &Folded,
+    frames: &Frames,
     title: &str,
     by_thread: bool,
-) -> Result<Vec<Value>> {
-    let by_name = profiles_by_name(alloc, frames, folded, title, by_thread)?;
+    stacks: &[Stack<'_>],
+) -> Result<Vec<Value>, AllocError>
+    ensures { (names : List (List ℕ)) → AreFrames names frames.now → by_thread ≡ false
+        → IfOk result (λ profiles. map view profiles.items ≡ profile_data names title.now (map stack_view stacks.now) ∷ []) }
+{
+    if by_thread {
+        return profiles_by_name(alloc, frames, stacks);
+    }
+    one_profile(alloc, frames, title, stacks)
+}
+
+/// Returns the profiles of stacks that all have one.
+fn one_profile(
+    alloc: Global,
+    frames: &Frames,
+    title: &str,
+    stacks: &[Stack<'_>],
+) -> Result<Vec<Value>, AllocError>
+    ensures { (names : List (List ℕ)) → AreFrames names frames.now
+        → IfOk result (λ profiles. map view profiles.items ≡ profile_data names title.now (map stack_view stacks.now) ∷ []) }
+{
     let mut profiles = Vec::new(alloc);
-    for (name, profile) in by_name {
-        profiles.push(profile.into_value(alloc, name.as_slice())?)?;
+    profiles.push(profile_value(alloc, frames, title.as_bytes(), stacks)?)?;
+    Ok(profiles)
+}
+
+/// Returns the profiles of stacks, in the order of their names.
+fn profiles_by_name(
+    alloc: Global,
+    frames: &Frames,
+    stacks: &[Stack<'_>],
+) -> Result<Vec<Value>, AllocError> {
+    let mut by_name: BTreeMap<&[u8], Vec<Stack<'_>>> = BTreeMap::new(alloc);
+    for stack in stacks {
+        by_name
+            .entry(stack.profile)?
+            .or_insert(Vec::new(alloc))
+            .push(*stack)?;
+    }
+    let mut profiles = Vec::new(alloc);
+    for (name, stacks) in by_name {
+        profiles.push(profile_value(alloc, frames, name, stacks.as_slice())?)?;
     }
     Ok(profiles)
 }
 
-/// Returns the profiles of folded stacks, of which there is at least one.
-fn profiles_by_name(
+/// Returns a profile as speedscope reads it. The unit is `none`: a weight is a number of samples.
+fn profile_value(
     alloc: Global,
-    frames: &mut Frames,
-    folded: &Folded,
-    title: &str,
-    by_thread: bool,
-) -> Result<BTreeMap<Vec<u8>, Profile>> {
-    let mut by_name = BTreeMap::new(alloc);
-    for (stack, count) in folded.iter() {
-        let (name, stack) = if by_thread {
-            split_thread(stack.as_slice())
-        } else {
-            (title.as_bytes(), stack.as_slice())
-        };
-        let sample = sample_of(alloc, frames, stack)?;
-        add_sample(alloc, &mut by_name, name, sample, *count)?;
-    }
-    if by_name.is_empty() {
-        let name = Vec::from_slice(alloc, title.as_bytes())?;
-        by_name.insert(name, Profile::new(alloc))?;
-    }
-    Ok(by_name)
-}
-
-/// Adds a stack that was sampled so often to the profile of a name.
-fn add_sample(
-    alloc: Global,
-    by_name: &mut BTreeMap<Vec<u8>, Profile>,
+    frames: &Frames,
     name: &[u8],
-    sample: Value,
-    count: u64,
-) -> Result<()> {
-    if let Some(profile) = by_name.get_mut(name) {
-        return profile.add(sample, count);
-    }
-    let mut profile = Profile::new(alloc);
-    profile.add(sample, count)?;
-    by_name.insert(Vec::from_slice(alloc, name)?, profile)?;
-    Ok(())
+    stacks: &[Stack<'_>],
+) -> Result<Value, AllocError>
+    ensures { (names : List (List ℕ)) → AreFrames names frames.now
+        → IfOk result (λ value. view value ≡ profile_data names name.now (map stack_view stacks.now)) }
+{
+    let samples = samples_of(alloc, frames, stacks)?;
+    let weights = weights_of(alloc, stacks)?;
+    profile_with(alloc, name, total_of(stacks), samples, weights)
 }
 
-/// Returns the name of the thread with which a folded stack begins, and the frames after it.
-fn split_thread(stack: &[u8]) -> (&[u8], &[u8]) {
-    match stack.iter().position(|byte| *byte == b';') {
-        Some(at) => (&stack[..at], &stack[at + 1..]),
-        None => (stack, &[]),
+/// Returns a profile of samples and their weights, which are so many together.
+fn profile_with(
+    alloc: Global,
+    name: &[u8],
+    total: u64,
+    samples: Vec<Value>,
+    weights: Vec<Value>,
+) -> Result<Value, AllocError>
+    ensures { IfOk result (λ value. view value ≡ profile_with name.now total (map view samples.items) (map view weights.items)) }
+{
+    let name = String::from_utf8_lossy(alloc, name)?;
+    let samples = Value::Array(samples);
+    let weights = Value::Array(weights);
+    json!(in alloc; {
+        "type": "sampled",
+        "name": name.as_str(),
+        "unit": "none",
+        "startValue": 0u64,
+        "endValue": total,
+        "samples": samples,
+        "weights": weights
+    })
+}
+
+/// Returns how often stacks were counted together, or 2^64 - 1 where that is more.
+fn total_of(stacks: &[Stack<'_>]) -> u64
+    ensures { result ≡ u64_saturate (sum_by (λ stack. stack.count) (map stack_view stacks.now)) }
+{
+    let mut total: u64 = 0;
+    for stack in stacks {
+        total = total.saturating_add(stack.count);
     }
+    total
+}
+
+/// Returns how often each stack was counted.
+fn weights_of(alloc: Global, stacks: &[Stack<'_>]) -> Result<Vec<Value>, AllocError>
+    ensures { IfOk result (λ weights. map view weights.items ≡ map (λ stack. number_data stack.count) (map stack_view stacks.now)) }
+{
+    let mut weights = Vec::new(alloc);
+    for stack in stacks {
+        weights.push(Value::from(stack.count))?;
+    }
+    Ok(weights)
+}
+
+/// Returns each stack as the numbers of its frames.
+fn samples_of(
+    alloc: Global,
+    frames: &Frames,
+    stacks: &[Stack<'_>],
+) -> Result<Vec<Value>, AllocError>
+    ensures { (names : List (List ℕ)) → AreFrames names frames.now
+        → IfOk result (λ samples. map view samples.items ≡ map (λ stack. sample_data names stack.frames) (map stack_view stacks.now)) }
+{
+    let mut samples = Vec::new(alloc);
+    for stack in stacks {
+        samples.push(sample_value(alloc, frames, stack.frames)?)?;
+    }
+    Ok(samples)
 }
 
 /// Returns a stack as the numbers of its frames, from the outermost on.
-fn sample_of(alloc: Global, frames: &mut Frames, stack: &[u8]) -> Result<Value> {
+fn sample_value(alloc: Global, frames: &Frames, stack: &[u8]) -> Result<Value, AllocError>
+    ensures { (names : List (List ℕ)) → AreFrames names frames.now → IfOk result (λ value. view value ≡ sample_data names stack.now) }
+{
+    let names = names_of(alloc, stack)?;
+    Ok(Value::Array(numbers_of(alloc, frames, names.as_slice())?))
+}
+
+/// Returns the numbers of the frames of these names.
+fn numbers_of(alloc: Global, frames: &Frames, stack: &[&[u8]]) -> Result<Vec<Value>, AllocError>
+    ensures { (names : List (List ℕ)) → AreFrames names frames.now
+        → IfOk result (λ numbers. map view numbers.items
+        ≡ map (λ name. number_data (unwrap_or (number_in names name) 0)) (map (λ name. name.now) stack.now)) }
+{
     let mut numbers = Vec::new(alloc);
-    if stack.is_empty() {
-        return Ok(Value::Array(numbers));
+    for name in stack {
+        numbers.push(Value::from(frames.number(name) as u64))?;
     }
-    for name in stack.split(|byte| *byte == b';') {
-        let number = frames.number_of(alloc, name)?;
-        numbers.push(Value::Number(Number::from(number)))?;
-    }
-    Ok(Value::Array(numbers))
+    Ok(numbers)
 }

@@ -293,3 +293,38 @@ fn writes_the_frames_of_the_blocks_before_a_step_without_a_word(
 ) -> Result<(), Fail> {
     holds(walks_a_block(rt.alloc())?)
 }
+
+/// Whether a walk over two windows that tell different words of one address goes by the first one, although the frames before
+/// lie in the second.
+fn goes_by_the_first(unwinder: &UnwinderX86_64<Vec<u8>>, cache: &mut CacheX86_64) -> bool {
+    let words = chain();
+    let mut others = words;
+    others[41] = 7;
+    let windows = [
+        Window {
+            base: 0x1140,
+            words: &words[40..],
+        },
+        Window {
+            base: 0x1000,
+            words: &others,
+        },
+    ];
+    walked_along(unwinder, cache, &windows)
+        == (
+            callers(24),
+            (24, WalkStop::Ended(WalkEnd::Limit)),
+            UnwindRegsX86_64::new(0x100017, 0x12f0, 0x1300),
+        )
+}
+
+/// The same by a new unwinder and a new cache.
+fn walks_over_two(alloc: Global) -> Result<bool, Fail> {
+    let mut made = X86_64::<MayAllocateDuringUnwind>::new(alloc)?;
+    Ok(goes_by_the_first(&made.unwinder, &mut made.cache))
+}
+
+#[test]
+fn goes_by_the_first_of_two_windows(rt: HostRuntime) -> Result<(), Fail> {
+    holds(walks_over_two(rt.alloc())?)
+}

@@ -4,13 +4,9 @@
 #[cfg(test)]
 mod asked_names;
 #[cfg(test)]
-mod backtrace;
-#[cfg(test)]
 mod command_line;
 #[cfg(test)]
 mod commands;
-#[cfg(test)]
-mod files;
 #[cfg(test)]
 mod kinds;
 #[cfg(test)]
@@ -35,8 +31,6 @@ mod rule_text;
 mod section_info;
 #[cfg(test)]
 mod sections;
-#[cfg(test)]
-mod small;
 #[cfg(test)]
 mod stack_bytes;
 #[cfg(test)]

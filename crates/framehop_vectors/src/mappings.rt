@@ -383,3 +383,26 @@ fn begins_with_pages(alloc: Global, is_rising: bool) -> Result<bool, Fail> {
 fn begins_with_shared_mappings(rt: HostRuntime) -> Result<(), Fail> {
     holds(begins_with_pages(rt.alloc(), true)? && begins_with_pages(rt.alloc(), false)?)
 }
+
+/// Whether a process that exchanges mappings for others has as many, and a module for each under the next generation.
+fn is_exchanged(alloc: Global, old: &SharedMappings, new: &SharedMappings) -> Result<bool, Fail> {
+    let mut generations = Generations::starting_at(10);
+    let process: ProcessX86_64 = Process::with_mappings(alloc, &Bare, old, &mut generations)?;
+    let process = process.exchanged(alloc, &Bare, new, &mut generations)?;
+    let modules = process.unwinder().inner().modules().len();
+    let count = new.len();
+    Ok(process.mappings().len() == count && modules == count && generations.next() == Some(12))
+}
+
+#[test]
+fn exchanges_mappings(rt: HostRuntime) -> Result<(), Fail> {
+    let alloc = rt.alloc();
+    let (rising, falling) = (pages(alloc, true)?, pages(alloc, false)?);
+    // a few mappings differ
+    let other = rising.with_mapping(alloc, page(7))?;
+    holds(
+        is_exchanged(alloc, &rising, &falling)?
+            && is_exchanged(alloc, &rising, &other)?
+            && is_exchanged(alloc, &other, &rising)?,
+    )
+}

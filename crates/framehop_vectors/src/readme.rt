@@ -1,6 +1,5 @@
 //! The examples of docs/EXAMPLES.md, as they are printed there, and a walk on aarch64.
 
-mod elf;
 mod minidump;
 
 use crate::unwinders::{Aarch64, binary, holds, read_stack, sections_of_binary};

@@ -4,14 +4,14 @@ use Rattle.framehop_lent.proofs.step.step_over.Goals as goal
 
 pub returns-in-None-Ok-clause-answers : goal.returns-in-None-Ok-clause-answers
 returns-in-None-Ok-clause-answers g c = λ sound not_out memory agrees.
-    over-read _ (c.unwind_frame-answer.ensures.answers sound)
+    over-read (λ f. f.0.now) (λ f. f.1.now) (λ f. f.1.ghost_name) _ (c.unwind_frame-answer.ensures.answers sound)
     (λ f a r f' call. record { gives = search rules; notes = search rules; windows = search rules; place = search rules })
     memory None refl (λ place _. let noted : c.unwind_frame-answer.new.read_stack.1.now ≡ None = search (rules, place) in rw noted tt)
     agrees not_out
 
 pub returns-in_default-clause-answers : goal.returns-in_default-clause-answers
 returns-in_default-clause-answers g c = λ sound not_out memory read.
-    over-read _ (c.unwind_frame-answer.ensures.answers sound)
+    over-read (λ f. f.0.now) (λ f. f.1.now) (λ f. f.1.ghost_name) _ (c.unwind_frame-answer.ensures.answers sound)
     (λ f a r f' call. record { gives = search rules; notes = search rules; windows = search rules; place = search rules })
     memory c.missing_word.result refl (λ place none. let told = c.missing_word.ensures.none none in search (rules, place, told))
     read not_out

@@ -7,17 +7,17 @@ use Rattle.framehop_lent.proofs.Writing.{drop-more, part-kept, put-back, WritesO
 use Rattle.framehop_lent.proofs.walk.walk_on.Goals as goal
 
 pub loop-from-init : goal.loop-from-init
-loop-from-init g c = (search rules, search rules, search rules, (λ other apart sound. sound), λ sound memory agrees. WritesOn-start _ _ _ _ _ _)
+loop-from-init g c = (search rules, search rules, search rules, (λ other apart sound. sound), (λ sound memory agrees. WritesOn-start _ _ _ _ _ _), c.near-around.ensures ∙ c.new-windows.ensures)
 
 pub loop-i-init : goal.loop-i-init
-loop-i-init g c = (search rules, refl, search rules, c.loop-from.invariant.3, c.loop-from.invariant.4)
+loop-i-init g c = (search rules, refl, search rules, c.loop-from.invariant.3, c.loop-from.invariant.4, c.loop-from.invariant.5)
 
 pub returns-in_default-clause-answers : goal.returns-in_default-clause-answers
 returns-in_default-clause-answers g c = λ sound memory agrees.
     let step : FrameLocation → g.row.U-UnwindRegs.Denot → Outcome g.row.U-UnwindRegs.Denot = λ location regs. g.U.Unwinder.step c.args.unwinder.now location regs memory in
     let sound_yet = c.loop-i.invariant.3 (g.U.Unwinder.unwinder_view c.args.unwinder.now) (λ same. refl) sound in
     WritesOn-stopped step (g.U.Unwinder.cache_after c.args.unwinder.now) _ _ _ _ _ _ _ _ (c.loop-i.invariant.4 sound memory agrees) _ _ (length c.args.frames.now) (omega arith)
-    c.in-Err.stop (c.in-Err.ensures.answers sound_yet memory agrees) (c.in-Err.ensures.kept c.in_default.is) c.in-Err.ensures.cached
+    c.in-Err.stop (c.in-Err.ensures.answers sound_yet memory (rw c.loop-i.invariant.5 agrees)) (c.in-Err.ensures.kept c.in_default.is) c.in-Err.ensures.cached
 
 pub returns-in-Err-clause-others : goal.returns-in-Err-clause-others
 returns-in-Err-clause-others g c =
@@ -45,17 +45,18 @@ loop-i-preserved g c = (
   take-set-le c.loop-from.from c.loop-i.frames c.loop-i.i _ (omega arith) ∙ c.loop-i.invariant.1,
   search (rules, drop-set-lt, drop-more c.loop-i.frames c.args.frames.now c.loop-i.i c.loop-i.invariant.2),
   search rules,
-  λ sound memory agrees.
+  (λ sound memory agrees.
       let step : FrameLocation → g.row.U-UnwindRegs.Denot → Outcome g.row.U-UnwindRegs.Denot = λ location regs. g.U.Unwinder.step c.args.unwinder.now location regs memory in
       let sound_yet = c.loop-i.invariant.3 (g.U.Unwinder.unwinder_view c.args.unwinder.now) (λ same. refl) sound in
-      let called = c.in-Ok.ensures.answers sound_yet memory agrees in
-      rw c.address.ensures (WritesOn-next step (g.U.Unwinder.cache_after c.args.unwinder.now) _ _ _ _ _ _ _ _ (c.loop-i.invariant.4 sound memory agrees) _ _ _ (sym called.1) called.2 c.in-Ok.ensures.cached (location_of c.in-Ok.caller) (sym called.0) (omega (arith, c.loop-i.invariant.0))),
+      let called = c.in-Ok.ensures.answers sound_yet memory (rw c.loop-i.invariant.5 agrees) in
+      rw c.address.ensures (WritesOn-next step (g.U.Unwinder.cache_after c.args.unwinder.now) _ _ _ _ _ _ _ _ (c.loop-i.invariant.4 sound memory agrees) _ _ _ (sym called.1) called.2 c.in-Ok.ensures.cached (location_of c.in-Ok.caller) (sym called.0) (omega (arith, c.loop-i.invariant.0)))),
+  c.move_by.ensures (c.loop-i.invariant.5 ∙ sym c.new-windows.ensures) ∙ c.new-windows.ensures,
 )
 
 pub loop-from-preserved : goal.loop-from-preserved
 loop-from-preserved g c =
     let all : c.loop-i.i ≡ c.loop-from.from + c.min.result = omega arith in
-    (search rules, search rules, rw all at c.loop-i.invariant.2, c.loop-i.invariant.3, λ sound memory agrees. rw all at (c.loop-i.invariant.4 sound memory agrees))
+    (search rules, search rules, rw all at c.loop-i.invariant.2, c.loop-i.invariant.3, (λ sound memory agrees. rw all at (c.loop-i.invariant.4 sound memory agrees)), c.loop-i.invariant.5)
 
 pub returns-clause-answers : goal.returns-clause-answers
 returns-clause-answers g c = λ sound memory agrees.

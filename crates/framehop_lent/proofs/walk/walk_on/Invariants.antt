@@ -19,6 +19,7 @@ invariant-loop-i g l =
     → (memory : Memory) → AgreesWith l.fn.windows memory
     → WritesOn (λ location regs. g.U.Unwinder.step l.fn.unwinder location regs memory) (g.U.Unwinder.cache_after l.fn.unwinder)
     l.frames l.i (at_frame (location_of l.callee)) (at_frame (location_of l.fn.callee)) l.regs l.fn.regs l.cache l.fn.cache)
+    × (l.around.windows.now ≡ l.fn.windows)
 
 abbrev pub invariant-loop-from : goal.invariant-loop-from
 invariant-loop-from g l =
@@ -31,6 +32,7 @@ invariant-loop-from g l =
     → (memory : Memory) → AgreesWith l.fn.windows memory
     → WritesOn (λ location regs. g.U.Unwinder.step l.fn.unwinder location regs memory) (g.U.Unwinder.cache_after l.fn.unwinder)
     l.frames l.from (at_frame (location_of l.callee)) (at_frame (location_of l.fn.callee)) l.regs l.fn.regs l.cache l.fn.cache)
+    × (l.around.windows.now ≡ l.fn.windows)
 
 abbrev pub decreases-loop-from : goal.decreases-loop-from
 decreases-loop-from g l = length l.initial.frames - l.from

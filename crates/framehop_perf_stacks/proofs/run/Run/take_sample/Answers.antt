@@ -9,6 +9,9 @@ use Rattle.framehop_perf_stacks.specs.Run.{sample_refusal}
 use Rattle.framehop_perf_stacks.specs.Samples.{unread_stack, told_by, IsUserStack}
 use Rattle.framehop_perf_stacks.proofs.run.Run.take_sample.Goals as goal
 
+pub make_ready-requires : goal.make_ready-requires
+make_ready-requires g c = (c.args.self.now.cache, c.requires)
+
 pub returns-in_ok-take_user-in-Ok-clause-served : goal.returns-in_ok-take_user-in-Ok-clause-served
 returns-in_ok-take_user-in-Ok-clause-served g c = λ served.
     c.in_ok-take_user-in-Ok.ensures.served (g.M.ModuleMaker.module_of c.args.input.now.maker.now) (c.in_ok-make_ready.ensures.served c.args.self.now.cache served)

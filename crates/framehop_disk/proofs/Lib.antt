@@ -1,0 +1,9 @@
+-- What the proofs of this crate share.
+pub mod NamesLemmas
+pub mod GapsLemmas
+pub mod PathLemmas
+pub mod WantedLemmas
+pub mod PlacesLemmas
+pub mod InputLemmas
+pub mod CorePartsLemmas
+pub mod PrintedLemmas
