@@ -18,7 +18,7 @@ check_docs.py [--run [PROGRAM..]].
   the list of tests in docs/TESTED.md are what tools/definitions.py and tools/tested.py make.
 - The pages that the two make of all crates, in a folder of their own here, have no dead link, each public method, and each
   public definition of specs/, as these are read here.
-- Each edit of checks/edits/CRATE can be applied, and each promise of PROVED.md has one that the gate tries.
+- Each edit of checks/edits/CRATE can be applied, and each promise of PROVED.md has one.
 - Each source, definition and proof has the layout that `rt fmt` gives it.
 - The table of ARCHITECTURE.md has each crate of crates.txt; and EXAMPLES.md lists the libraries below `framehop`.
 - Each command of PROGRAMS.md is in the file of examples/ that has its name.
@@ -93,7 +93,7 @@ MOST_WORDS = 35000
 # how many commands have their output in a document, at least
 LEAST_SHOWN = 14
 # the lines of an edit that are no text: checks/edits/try says what they are for
-EDIT_KEYS = {"fn", "gate", "alone", "harmless", "says", "tests"}
+EDIT_KEYS = {"fn", "gate", "promise", "alone", "harmless", "says", "tests"}
 # words of a name in backticks that are not names of this repository: Rust's, and values of arguments
 FOREIGN = set("Err None Some Ok Option Result Vec u8 u16 u32 u64 usize for true false null".split())
 # names of several words that are those of other programs
@@ -358,16 +358,16 @@ def edit_faults(text, crate):
 
 
 def wrong_edits():
-    """Edits that can't be applied, and promises without one that the gate tries."""
+    """Edits that can't be applied, and promises without one."""
     promises = set(re.findall(r"^- \*(.*?)\*: ", (TOP / "docs/PROVED.md").read_text(), re.M))
-    tried = set()
+    broken = set()
     for file in sorted(TOP.glob("checks/edits/*/*.edit")):
         text, name = file.read_text(), file.relative_to(TOP)
         yield from (f"{name}: {fault}" for fault in edit_faults(text, TOP / "crates" / file.parent.name))
-        of = re.findall(r"^gate: (.*)$", text, re.M)
+        of = re.findall(r"^promise: (.*)$", text, re.M)
         yield from (f"{name}: no promise {promise}" for promise in of if promise not in promises)
-        tried.update(of)
-    yield from (f"docs/PROVED.md: the gate tries no edit of {promise}" for promise in sorted(promises - tried))
+        broken.update(of)
+    yield from (f"docs/PROVED.md: no edit breaks {promise}" for promise in sorted(promises - broken))
 
 
 def not_in_the_layout(names):

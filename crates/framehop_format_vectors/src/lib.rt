@@ -1,5 +1,5 @@
-//! What only calls show of files: ELF and PE files, compressed sections, recordings, core files, minidumps, their memory, and flame
-//! graphs. What programs print of files is cases, in `checks/cases/core_files` and the others. This crate has only tests.
+//! What only calls show of files: ELF and PE files, compressed sections, recordings, core files, minidumps, and their memory. What
+//! programs print of files is cases, in `checks/cases/core_files` and the others. This crate has only tests.
 #![tactic(auto)]
 
 #[cfg(test)]
@@ -8,8 +8,6 @@ mod changed;
 mod core_file;
 #[cfg(test)]
 mod elf;
-#[cfg(test)]
-mod flame_graph;
 #[cfg(test)]
 mod inflate;
 #[cfg(test)]

@@ -4,8 +4,6 @@
 #[cfg(test)]
 mod asked_names;
 #[cfg(test)]
-mod command_line;
-#[cfg(test)]
 mod commands;
 #[cfg(test)]
 mod kinds;
@@ -13,8 +11,6 @@ mod kinds;
 mod lent_words;
 #[cfg(test)]
 mod library;
-#[cfg(test)]
-mod mappings;
 #[cfg(test)]
 mod paths;
 #[cfg(test)]
@@ -31,8 +27,6 @@ mod rule_text;
 mod section_info;
 #[cfg(test)]
 mod sections;
-#[cfg(test)]
-mod stack_bytes;
 #[cfg(test)]
 mod texts;
 #[cfg(test)]

@@ -1,5 +1,4 @@
 //! The library on aarch64: an iterator, steps, and the list of modules.
-use crate::sections::NoSections;
 use crate::unwinders::{Aarch64, holds, module, read_stack};
 use framehop::aarch64::{CacheAarch64, UnwindRegsAarch64, UnwinderAarch64};
 use framehop::unwinder::{ModuleListError, Unwinder};
@@ -113,69 +112,6 @@ fn lowers_the_greatest(alloc: Global) -> Result<bool, Fail> {
 #[test]
 fn tells_the_greatest_code_address(rt: HostRuntime) -> Result<(), Fail> {
     holds(lowers_the_greatest(rt.alloc())?)
-}
-
-/// Adds a hundred modules from the greatest start down: whether the greatest address stays.
-fn adds_a_hundred(alloc: Global, made: &mut Aarch64) -> Result<bool, Fail> {
-    for number in 0..100u64 {
-        let start = 0x100000 - number * 0x1000;
-        let added = module(alloc, "m", start, start + 0x1000)?;
-        if !made.adds(added) || made.unwinder.max_known_code_address() != 0x101000 {
-            return Ok(false);
-        }
-    }
-    Ok(true)
-}
-
-/// Removes them in the same order: whether the greatest address goes down.
-fn removes_a_hundred(made: &mut Aarch64) -> bool {
-    for number in 0..100u64 {
-        if made.unwinder.max_known_code_address() != 0x101000 - number * 0x1000 {
-            return false;
-        }
-        let start = 0x100000 - number * 0x1000;
-        if made
-            .unwinder
-            .remove_module(start, &mut made.generations)
-            .is_err()
-        {
-            return false;
-        }
-    }
-    made.unwinder.max_known_code_address() == 0
-}
-
-/// Whether both go well, and draw a generation for each module.
-fn changes_a_hundred(alloc: Global) -> Result<bool, Fail> {
-    let mut made = Aarch64::new(alloc, 0)?;
-    let are_added = adds_a_hundred(alloc, &mut made)?;
-    Ok(are_added && removes_a_hundred(&mut made) && made.generations.next() == Some(201))
-}
-
-#[test]
-fn holds_a_hundred_modules(rt: HostRuntime) -> Result<(), Fail> {
-    holds(changes_a_hundred(rt.alloc())?)
-}
-
-/// Whether a module has the name, the range and the base of the library.
-fn is_library(module: &Module<Vec<u8>>) -> bool {
-    let range = module.avma_range();
-    module.name() == "library"
-        && (range.start, range.end, module.base_avma()) == (0x9000, 0xa000, 0x8000)
-}
-
-/// Whether the library and its clone have them.
-fn clones_the_library(alloc: Global) -> Result<bool, Fail> {
-    let name = String::from_str(alloc, "library")?;
-    let sections = NoSections { base_svma: 0x4000 };
-    let library: Module<Vec<u8>> = Module::new(alloc, name, 0x9000..0xa000, 0x8000, sections)?;
-    let copy = library.clone()?;
-    Ok(is_library(&library) && is_library(&copy))
-}
-
-#[test]
-fn clones_a_module_of_another_base(rt: HostRuntime) -> Result<(), Fail> {
-    holds(clones_the_library(rt.alloc())?)
 }
 
 /// Whether a module comes back where the counter is at its end, and the unwinder has none.

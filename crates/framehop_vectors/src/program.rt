@@ -12,10 +12,10 @@ const MODULE: &str = r#"{"arch":"aarch64","policy":"must","caches":0,"commands":
 
 /// What a run of the program answers and writes.
 #[derive(Drop)]
-pub struct Finished {
-    pub status: u8,
-    pub out: Vec<u8>,
-    pub err: Vec<u8>,
+struct Finished {
+    status: u8,
+    out: Vec<u8>,
+    err: Vec<u8>,
 }
 
 /// A reader that gives seven bytes a read, and fails after so many reads.

@@ -1,10 +1,6 @@
-//! What a module lends: sections that are given one by one, and each form of their bytes.
-use crate::unwinders::holds;
-use framehop_bytes::section::{ExplicitModuleSectionInfo, ModuleSectionInfo, SectionBytes};
-use std::alloc::{AllocError, Global};
-use std::boxed::BoxedSlice;
-use std::rc::{Rc, RcSlice};
-use std::test::Fail;
+//! What a module lends: sections that are given one by one.
+use framehop_bytes::section::{ExplicitModuleSectionInfo, ModuleSectionInfo};
+use std::alloc::Global;
 
 const TEXT: [u8; 1] = [1];
 
@@ -97,33 +93,6 @@ fn gives_the_text_segment(rt: HostRuntime) {
     assert_eq!(rt; info.segment_svma_range(b"__TEXT"), Some(0x70..0x77));
 }
 
-#[test]
-fn knows_no_other_name(rt: HostRuntime) {
-    let mut info = every_section();
-    for name in [
-        ".pdata",
-        ".rdata",
-        ".xdata",
-        ".stubs",
-        ".stub_helper",
-        ".unwind_info",
-        "__TEXT",
-        "text",
-        "__tex",
-        "__textt",
-        "",
-    ] {
-        assert_eq!(rt; info.section_svma_range(name.as_bytes()), None);
-        assert!(rt; info.section_data(name.as_bytes()).is_none());
-    }
-    for name in ["__text", ".text", "__DATA", "TEXT", ""] {
-        assert_eq!(rt; info.segment_svma_range(name.as_bytes()), None);
-        assert!(rt; info.segment_data(name.as_bytes()).is_none());
-    }
-    // nothing was taken
-    assert!(rt; info == every_section());
-}
-
 /// Whether sections have this text.
 fn prints(alloc: Global, info: &ExplicitModuleSectionInfo<&'static [u8]>, text: &str) -> bool {
     match format!(in alloc; "{info:?}") {
@@ -152,83 +121,4 @@ fn default_gives_nothing(rt: HostRuntime) {
     let alloc = rt.alloc();
     assert!(rt; prints(alloc, &ExplicitModuleSectionInfo::default(), NOTHING));
     assert!(rt; prints(alloc, &every_section(), EVERYTHING));
-}
-
-/// Whether a clone has the same sections.
-fn equals_its_clone(info: &ExplicitModuleSectionInfo<&'static [u8]>) -> bool {
-    match info.clone() {
-        Ok(copy) => copy == *info,
-        Err(_) => false,
-    }
-}
-
-#[test]
-fn a_clone_equals_its_original(rt: HostRuntime) {
-    let nothing = ExplicitModuleSectionInfo::default();
-    assert!(rt; equals_its_clone(&every_section()));
-    assert!(rt; equals_its_clone(&nothing));
-    assert!(rt; nothing != every_section());
-}
-
-/// The code of sections that have only that.
-fn code_of(info: &mut ExplicitModuleSectionInfo<Vec<u8>>) -> Option<u8> {
-    let taken = info.section_data(b".text")?;
-    taken.first().copied()
-}
-
-/// Whether sections keep their data where that of their clone is taken.
-fn keeps_its_data(alloc: Global) -> Result<bool, AllocError> {
-    let mut info = ExplicitModuleSectionInfo {
-        text: Some(vec![in alloc; 1]?),
-        ..ExplicitModuleSectionInfo::default()
-    };
-    let mut copy = info.clone()?;
-    Ok(
-        code_of(&mut copy) == Some(1)
-            && code_of(&mut copy).is_none()
-            && code_of(&mut info) == Some(1),
-    )
-}
-
-#[test]
-fn a_clone_has_data_of_its_own(rt: HostRuntime) -> Result<(), Fail> {
-    holds(keeps_its_data(rt.alloc())?)
-}
-
-/// The bytes 1 to 3.
-const BYTES: &[u8] = &[1, 2, 3];
-
-/// Whether the same bytes are lent twice.
-fn lends<D: SectionBytes>(section: &D) -> bool {
-    section.bytes() == BYTES && section.bytes() == BYTES
-}
-
-/// Whether bytes that are owned, and then boxed, are lent.
-fn lends_owned(alloc: Global) -> Result<bool, AllocError> {
-    let owned = BYTES.to_vec(alloc)?;
-    let are_lent = lends(&owned);
-    let boxed: BoxedSlice<u8> = owned.into_boxed_slice();
-    Ok(are_lent && lends(&boxed))
-}
-
-/// Whether bytes that are shared are lent by each that has them.
-fn lends_shared(alloc: Global) -> Result<bool, AllocError> {
-    let shared: Rc<Vec<u8>> = Rc::new(alloc, BYTES.to_vec(alloc)?)?;
-    let other = shared.clone()?;
-    Ok(lends(&shared) && lends(&other))
-}
-
-/// Whether a slice that is shared is lent.
-fn lends_shared_slice(alloc: Global) -> Result<bool, AllocError> {
-    let shared: RcSlice<u8> = RcSlice::from_slice(alloc, BYTES)?;
-    Ok(lends(&shared))
-}
-
-#[test]
-fn lends_the_same_bytes_each_time(rt: HostRuntime) -> Result<(), Fail> {
-    let alloc = rt.alloc();
-    holds(lends(&BYTES))?;
-    holds(lends_owned(alloc)?)?;
-    holds(lends_shared(alloc)?)?;
-    holds(lends_shared_slice(alloc)?)
 }

@@ -1,2 +1,0 @@
--- The module that the tests make of a mapping.
-pub mod Bare
