@@ -56,7 +56,7 @@ SHOWN = ["README.md", "docs/CHECK.md", "docs/PROGRAMS.md", "docs/EXAMPLES.md"]
 PROGRAMS = ("check", "explain", "stacks", "walk")
 EXAMPLES = [
     TOP / f"crates/{place}.rt"
-    for place in ("framehop_vectors/src/readme", "framehop_vectors/src/readme/minidump", "framehop_stack_vectors/src/elf", "framehop_vectors/src/proved_caller")
+    for place in ("framehop_vectors/src/readme", "framehop_vectors/src/readme/minidump", "framehop_vectors/src/elf", "framehop_vectors/src/proved_caller")
 ]
 # the page that a script makes of sources
 MADE = TOP / "docs/api/framehop.md"

@@ -19,7 +19,7 @@ LIBRARY, PROGRAM = ("#dbe8f7", "#2b5d94"), ("#dff2df", "#2c7a39")
 # the storeys, from the top, with the crates of each
 STOREYS = {
     "Programs": "walk walk_cli explain_cli check_cli stacks_cli cli disk",
-    "Stacks": "backtrace check columns dump_stacks explain flame_graph frames perf_stacks runs symbols",
+    "Stacks": "backtrace check columns dump_stacks dumps explain flame_graph frames perf_stacks runs symbols",
     "The library": "framehop lent c dwarf processes",
     "Formats": "cfi code coredump elf folded macho minidump pe pe_file recording",
     "Bytes and registers": "analysis bytes cache core inflate memory output",

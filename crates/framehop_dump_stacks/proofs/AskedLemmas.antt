@@ -2,8 +2,8 @@
 use Rattle.std.proofs.Common.{Bool, true, false, inl, inr, ⊎_elim, Result, Ok, Err, IfErr, OnOk}
 use Rattle.framehop_symbols.specs.Source.{SourceView}
 use Rattle.framehop_symbols.specs.declared.files.Files.{Files}
-use Rattle.framehop_dump_stacks.specs.Added.{more}
-use Rattle.framehop_dump_stacks.specs.Dump.{DumpView}
+use Rattle.framehop_dumps.specs.Added.{more}
+use Rattle.framehop_dumps.specs.Dump.{DumpView}
 use Rattle.framehop_dump_stacks.specs.Ended.{drawn_in, MayEndWithFiles}
 use Rattle.framehop_dump_stacks.specs.Modules.{AreFilesAsked, AreFilesFor, AreReadOf}
 use Rattle.framehop_dump_stacks.specs.declared.error.DumpStacksError.{DumpStacksError}

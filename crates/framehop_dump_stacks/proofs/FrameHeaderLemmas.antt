@@ -14,13 +14,13 @@ use Rattle.framehop_elf.specs.declared.program_header.ProgramHeader.{ProgramHead
 use Rattle.framehop_symbols.specs.MappedBytes.{contents_in}
 use Rattle.framehop_symbols.specs.declared.files.NamedFile.{NamedFile}
 use Rattle.framehop_symbols.specs.declared.mapped_bytes.MappedBytes.{MappedBytes}
-use Rattle.framehop_dump_stacks.specs.Dump.{DumpView, MappedCodeView, mapped_code_view, is_of_path, head_among}
+use Rattle.framehop_dumps.specs.Dump.{DumpView, MappedCodeView, mapped_code_view, is_of_path, head_among}
 use Rattle.framehop_dump_stacks.specs.FrameHeaders.{kept_for, first_header}
 use Rattle.framehop_elf.specs.Header.{file_header_of}
-use Rattle.framehop_dump_stacks.specs.Image.{CallFramesView, headers_in, segments_in, eh_frame_header, sections_of}
+use Rattle.framehop_dumps.specs.Image.{CallFramesView, headers_in, segments_in, eh_frame_header, sections_of}
 use Rattle.framehop_dump_stacks.specs.Modules.{sections_by}
-use Rattle.framehop_dump_stacks.specs.declared.dump.MappedCode.{MappedCode}
-use Rattle.framehop_dump_stacks.proofs.HeadLemmas.{or-none, some-first, none-first, map-or}
+use Rattle.framehop_dumps.specs.declared.dump.MappedCode.{MappedCode}
+use Rattle.framehop_dump_stacks.proofs.OptionLemmas.{or-none, some-first, none-first, map-or}
 
 abbrev pub header_in : MappedCodeView → Option ProgramHeader
 header_in code = eh_frame_header (segments_in code.head)

@@ -13,8 +13,8 @@ use Rattle.framehop_frames.proofs.FloatLemmas.{HasNone, neither, none-or-null, a
 use Rattle.framehop_frames.specs.JsonFiles.{path_in, debug_path_in}
 use Rattle.framehop_frames.specs.Stack.{StackView}
 use Rattle.framehop_frames.specs.declared.json_files.FilePaths.{FilePaths}
-use Rattle.framehop_dump_stacks.specs.Dump.{ThreadView, DumpView}
-use Rattle.framehop_dump_stacks.specs.declared.dump.Cause.{Cause}
+use Rattle.framehop_dumps.specs.Dump.{ThreadView, DumpView}
+use Rattle.framehop_dumps.specs.declared.dump.Cause.{Cause}
 use Rattle.framehop_dump_stacks.specs.JsonCrash.{fault_address, cause_data, crash_data}
 use Rattle.framehop_dump_stacks.specs.JsonModules.{module_data, module_of, modules_data}
 use Rattle.framehop_dump_stacks.specs.JsonReport.{dump_members}

@@ -1,15 +1,11 @@
 mod AskedLemmas
 mod DumpLemmas
-mod EachLemmas
 mod MinidumpLemmas
 mod ProblemLemmas
 mod EndLemmas
-mod HeadLemmas
+mod OptionLemmas
 mod FrameHeaderLemmas
 mod FirstMappingLemmas
-mod OrderLemmas
-mod WithinLemmas
-mod ThreadNameLemmas
 mod ReportLemmas
 mod JsonFloats
 mod JsonHeadLemmas

@@ -13,10 +13,10 @@ use Rattle.framehop_processes.specs.declared.mapping.Mapping.{Mapping}
 use Rattle.framehop_symbols.specs.declared.files.Files.{Files}
 use Rattle.framehop_frames.specs.Walker.{Walker}
 use Rattle.framehop_frames.specs.declared.machine.Start.{Start}
-use Rattle.framehop_dump_stacks.specs.Dump.{RegistersView, ThreadView, DumpView, thread_view}
+use Rattle.framehop_dumps.specs.Dump.{RegistersView, ThreadView, DumpView, thread_view}
 use Rattle.framehop_dump_stacks.specs.Report.{texts_of}
 use Rattle.framehop_dump_stacks.specs.Walked.{WalkedThread, IsWalked, AreWalked}
-use Rattle.framehop_dump_stacks.specs.declared.dump.Thread.{Thread}
+use Rattle.framehop_dumps.specs.declared.dump.Thread.{Thread}
 
 -- whether an item after others is a later one
 abbrev later_after : {X : Type 0} → Bool → List X → Bool

@@ -4,8 +4,8 @@ use Rattle.framehop_processes.specs.Mappings.{changed_modules}
 use Rattle.framehop_processes.specs.declared.mapping.Mapping.{Mapping}
 use Rattle.framehop_symbols.specs.Source.{SourceView}
 use Rattle.framehop_symbols.specs.declared.files.Files.{Files}
-use Rattle.framehop_dump_stacks.specs.Dump.{MappedCodeView, DumpView}
-use Rattle.framehop_dump_stacks.specs.Minidump.{LoadedView, AreModuleFiles, dump_with}
+use Rattle.framehop_dumps.specs.Dump.{MappedCodeView, DumpView}
+use Rattle.framehop_dumps.specs.Minidump.{LoadedView, AreModuleFiles, dump_with}
 use Rattle.framehop_dump_stacks.specs.Modules.{AreFilesFor, mapping_in, mapped_by}
 use Rattle.framehop_dump_stacks.specs.declared.error.DumpStacksError.{DumpStacksError}
 use Rattle.framehop_dump_stacks.specs.declared.error.DumpStacksError.TheVariants.{Core, Minidump, OutOfMemory, GenerationsExhausted, EmptyMapping, CannotWrite}

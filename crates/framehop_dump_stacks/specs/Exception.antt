@@ -3,8 +3,8 @@ use Rattle.std.specs.Prelude.{ℕ, List, [], ◌∷◌, ◌++◌, codes, ◌==�
 use Rattle.std.specs.Fmt.{decimal}
 use Rattle.framehop_frames.specs.Line.{hexadecimal}
 use Rattle.framehop_dump_stacks.specs.Signal.{name_in, named}
-use Rattle.framehop_dump_stacks.specs.declared.dump.Access.{Access}
-use Rattle.framehop_dump_stacks.specs.declared.dump.Exception.{Exception}
+use Rattle.framehop_dumps.specs.declared.dump.Access.{Access}
+use Rattle.framehop_dumps.specs.declared.dump.Exception.{Exception}
 
 -- their names
 abbrev pub exceptions : List (ℕ × List ℕ)

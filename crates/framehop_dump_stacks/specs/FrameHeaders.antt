@@ -6,8 +6,8 @@ use Rattle.std.specs.List.{find}
 use Rattle.std.specs.Ordering.{nat_cmp}
 use denote.Ref.{Bor}
 use Rattle.framehop_elf.specs.declared.program_header.ProgramHeader.{ProgramHeader}
-use Rattle.framehop_dump_stacks.specs.Dump.{MappedCodeView, is_of_path}
-use Rattle.framehop_dump_stacks.specs.Image.{segments_in, eh_frame_header}
+use Rattle.framehop_dumps.specs.Dump.{MappedCodeView, is_of_path}
+use Rattle.framehop_dumps.specs.Image.{segments_in, eh_frame_header}
 
 -- what is kept for a path
 abbrev pub kept_for : BTreeMap (Bor (List ℕ)) (Option ProgramHeader) → List ℕ → Option (Option ProgramHeader)

@@ -1,13 +1,13 @@
 -- What ended a process, as JSON.
 use Rattle.std.specs.Prelude.{ℕ, List, [], ◌∷◌, codes, Option, Some, None, if◌then◌else◌}
 use Rattle.serde_json.specs.Data.{Data, null, string, object, member, no_members}
-use Rattle.framehop_dump_stacks.specs.Dump.{ThreadView}
+use Rattle.framehop_dumps.specs.Dump.{ThreadView}
 use Rattle.framehop_dump_stacks.specs.Signal.{is_fault}
 use Rattle.framehop_dump_stacks.specs.Text.{reason_text}
-use Rattle.framehop_dump_stacks.specs.declared.dump.Access.{Access}
-use Rattle.framehop_dump_stacks.specs.declared.dump.Cause.{Cause}
-use Rattle.framehop_dump_stacks.specs.declared.dump.Cause.TheVariants.{Signal, Exception, Other}
-use Rattle.framehop_dump_stacks.specs.declared.dump.Sent.{Sent}
+use Rattle.framehop_dumps.specs.declared.dump.Access.{Access}
+use Rattle.framehop_dumps.specs.declared.dump.Cause.{Cause}
+use Rattle.framehop_dumps.specs.declared.dump.Cause.TheVariants.{Signal, Exception, Other}
+use Rattle.framehop_dumps.specs.declared.dump.Sent.{Sent}
 use Rattle.framehop_frames.specs.JsonValues.{number_data, address_data, or_null}
 
 -- the number of a signal, or the code of an exception

@@ -10,7 +10,7 @@ use Rattle.framehop_processes.specs.declared.mapping.Mapping.{Mapping}
 use Rattle.framehop_symbols.specs.declared.files.Files.{Files}
 use Rattle.framehop_frames.specs.JsonValues.{number_data, name_data, or_null}
 use Rattle.framehop_frames.specs.declared.json_files.FilePaths.{FilePaths}
-use Rattle.framehop_dump_stacks.specs.Dump.{DumpView, kind_name}
+use Rattle.framehop_dumps.specs.Dump.{DumpView, kind_name}
 use Rattle.framehop_dump_stacks.specs.JsonCrash.{crash_data}
 use Rattle.framehop_dump_stacks.specs.JsonModules.{modules_data}
 use Rattle.framehop_dump_stacks.specs.JsonThreads.{thread_data}

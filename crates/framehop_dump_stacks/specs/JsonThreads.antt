@@ -8,7 +8,7 @@ use Rattle.framehop_frames.specs.JsonFrames.{frames_data}
 use Rattle.framehop_frames.specs.JsonValues.{number_data, address_data, name_data, or_null}
 use Rattle.framehop_frames.specs.Line.{ShownFrame, address_of_end, end_name}
 use Rattle.framehop_frames.specs.Stack.{StackView, walked, no_stack}
-use Rattle.framehop_dump_stacks.specs.Dump.{ThreadView}
+use Rattle.framehop_dumps.specs.Dump.{ThreadView}
 
 -- the frames of a stack: a thread without registers has none
 abbrev pub frames_of : StackView → List ShownFrame

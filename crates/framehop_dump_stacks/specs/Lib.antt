@@ -1,16 +1,6 @@
 -- What the contracts of this crate cite: the stacks of the threads of core files and minidumps.
---
--- A *dump* is what is known of a process that is gone: by a core file, or by a minidump and the files of its modules.
 pub mod Refusal
-pub mod Dump
-pub mod Image
-pub mod SharedHeaders
-pub mod Added
-pub mod CoreDump
-pub mod Heads
 pub mod FrameHeaders
-pub mod ThreadNames
-pub mod Minidump
 pub mod Modules
 pub mod Ended
 pub mod Problems

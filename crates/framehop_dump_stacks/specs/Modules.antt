@@ -14,9 +14,9 @@ use Rattle.framehop_symbols.specs.Source.{SourceView}
 use Rattle.framehop_symbols.specs.declared.object_file.ObjectFile.{ObjectFile}
 use Rattle.framehop_symbols.specs.declared.files.Files.{Files}
 use Rattle.framehop_symbols.specs.declared.files.NamedFile.{NamedFile}
-use Rattle.framehop_dump_stacks.specs.Added.{AreLeftOut, AreReadSince, AreReadByRounds}
-use Rattle.framehop_dump_stacks.specs.Dump.{MappedCodeView, DumpView, head_of}
-use Rattle.framehop_dump_stacks.specs.Image.{sections_of, sections_in}
+use Rattle.framehop_dumps.specs.Added.{AreLeftOut, AreReadSince, AreReadByRounds}
+use Rattle.framehop_dumps.specs.Dump.{MappedCodeView, DumpView, head_of}
+use Rattle.framehop_dumps.specs.Image.{sections_of, sections_in}
 
 -- the files whose code is mapped, each once, of which nothing was read
 abbrev pub AreLeftOutOf : DumpView → Files → Type 0

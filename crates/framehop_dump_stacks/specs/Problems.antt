@@ -18,9 +18,9 @@ use Rattle.framehop_symbols.specs.declared.object_file.ObjectFile.{ObjectFile}
 use Rattle.framehop_symbols.specs.declared.object_file.FileProblem.{FileProblem}
 use Rattle.framehop_symbols.specs.declared.object_file.FileProblem.TheVariants.{NotRead, Elf, Pe, OtherBuildId}
 use Rattle.framehop_frames.specs.Line.{plain}
-use Rattle.framehop_dump_stacks.specs.Dump.{DumpView, head_of, kind_name}
-use Rattle.framehop_dump_stacks.specs.Image.{sections_in}
-use Rattle.framehop_dump_stacks.specs.declared.dump.Kind.{Kind}
+use Rattle.framehop_dumps.specs.Dump.{DumpView, head_of, kind_name}
+use Rattle.framehop_dumps.specs.Image.{sections_in}
+use Rattle.framehop_dumps.specs.declared.dump.Kind.{Kind}
 
 -- Where memory of a process ends in the file. Addresses of the upper half are the kernel's: Linux tells of the page of vsyscall
 -- there, and writes it only where it may be read.

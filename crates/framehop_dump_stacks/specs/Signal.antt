@@ -6,8 +6,8 @@ use Rattle.std.specs.Fmt.{decimal}
 use Rattle.std.specs.List.{find}
 use Rattle.std.specs.Option.{option_or}
 use Rattle.framehop_frames.specs.Line.{hexadecimal}
-use Rattle.framehop_dump_stacks.specs.declared.dump.Sent.{Sent}
-use Rattle.framehop_dump_stacks.specs.declared.dump.Signal.{Signal}
+use Rattle.framehop_dumps.specs.declared.dump.Sent.{Sent}
+use Rattle.framehop_dumps.specs.declared.dump.Signal.{Signal}
 
 -- the name of a number by a table
 abbrev pub name_in : List (ℕ × List ℕ) → ℕ → Option (List ℕ)

@@ -8,12 +8,12 @@ use Rattle.framehop_frames.specs.Line.{plain}
 use Rattle.framehop_frames.specs.Numbered.{numbered_text}
 use Rattle.framehop_frames.specs.Stack.{StackView}
 use Rattle.framehop_symbols.specs.declared.files.Files.{Files}
-use Rattle.framehop_dump_stacks.specs.Dump.{ThreadView, DumpView}
+use Rattle.framehop_dumps.specs.Dump.{ThreadView, DumpView}
 use Rattle.framehop_dump_stacks.specs.Exception.{unnamed_exception, exception_text}
 use Rattle.framehop_dump_stacks.specs.Signal.{signal_text}
 use Rattle.framehop_dump_stacks.specs.Walked.{WalkedThread}
-use Rattle.framehop_dump_stacks.specs.declared.dump.Cause.{Cause}
-use Rattle.framehop_dump_stacks.specs.declared.dump.Cause.TheVariants.{Signal, Exception, Other}
+use Rattle.framehop_dumps.specs.declared.dump.Cause.{Cause}
+use Rattle.framehop_dumps.specs.declared.dump.Cause.TheVariants.{Signal, Exception, Other}
 
 -- the name of the program and the number of the process, as far as the file tells them, and the thread
 abbrev pub name_text : Option (List ℕ) → List ℕ

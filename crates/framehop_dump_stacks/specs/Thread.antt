@@ -15,7 +15,7 @@ use Rattle.framehop_frames.specs.Stack.{StackView, no_stack, stack_from}
 use Rattle.framehop_frames.specs.Walker.{Walker}
 use Rattle.framehop_frames.specs.Start.{x86_64_start, aarch64_start}
 use Rattle.framehop_frames.specs.declared.machine.Start.{Start}
-use Rattle.framehop_dump_stacks.specs.Dump.{RegistersView, of_kernel, of_context, ThreadView, DumpView, memory_in, is_code_at}
+use Rattle.framehop_dumps.specs.Dump.{RegistersView, of_kernel, of_context, ThreadView, DumpView, memory_in, is_code_at}
 
 -- The registers with which the walk of a thread begins. On aarch64 return addresses are without their signatures.
 abbrev pub begins_x86_64 : RegistersView → Option (Start RegistersX86_64)

@@ -15,7 +15,7 @@ use Rattle.framehop_frames.specs.Stack.{StackView}
 use Rattle.framehop_frames.specs.TakenText.{IsNoteX86_64, IsNoteAarch64}
 use Rattle.framehop_frames.specs.Walker.{Walker, x86_64_walker, aarch64_walker}
 use Rattle.framehop_frames.specs.declared.machine.Start.{Start}
-use Rattle.framehop_dump_stacks.specs.Dump.{RegistersView, ThreadView, DumpView, memory_in}
+use Rattle.framehop_dumps.specs.Dump.{RegistersView, ThreadView, DumpView, memory_in}
 use Rattle.framehop_dump_stacks.specs.Modules.{mappings_in, module_at}
 use Rattle.framehop_dump_stacks.specs.Thread.{code_in, thread_stack, begins_x86_64, begins_aarch64}
 

@@ -3,7 +3,7 @@ ghost use Rattle.std.specs.Prelude.{◌≡◌, IfOk, option_map, string_bytes};
 ghost use Rattle.framehop_dump_stacks.specs.Exception.{exception_name, unnamed_exception, access_kind, access_text, where_text, exception_text};
 ghost use Rattle.framehop_dump_stacks.specs.Signal.{named};
 
-use crate::dump::{Access, Exception};
+use framehop_dumps::dump::{Access, Exception};
 use std::alloc::{AllocError, Global};
 
 /// Returns an exception as it is printed: its name, and the access to memory that failed, or else the address of the

@@ -2,11 +2,11 @@
 ghost use Rattle.std.specs.Prelude.{◌≡◌, ◌∷◌, [], List, ℕ, Some, None, IfOk, OnOk, cond, unwrap_or, nat_eq, map};
 ghost use Rattle.std.specs.Cmp.Lexicographic.{pointwise};
 ghost use Rattle.std.specs.Option.{option_or};
-ghost use Rattle.framehop_dump_stacks.specs.Dump.{dump_view, mapped_code_view};
+ghost use Rattle.framehop_dumps.specs.Dump.{dump_view, mapped_code_view};
 ghost use Rattle.framehop_dump_stacks.specs.FrameHeaders.{kept_for, first_header, HasHeadersOf};
 
-use crate::dump::{Dump, MappedCode};
-use crate::image::{eh_frame_header, segments_in};
+use framehop_dumps::dump::{Dump, MappedCode};
+use framehop_dumps::image::{eh_frame_header, segments_in};
 use framehop_elf::program_header::ProgramHeader;
 use std::alloc::{AllocError, Global};
 use std::collections::BTreeMap;

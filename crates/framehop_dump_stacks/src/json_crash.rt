@@ -3,11 +3,11 @@ ghost use Rattle.std.specs.Prelude.{◌≡◌, map, IfOk};
 ghost use Rattle.serde_json.specs.View.{view};
 ghost use Rattle.framehop_dump_stacks.specs.JsonCrash.{number_of, signal_address, exception_address, fault_address, cause_data, crash_data};
 ghost use Rattle.framehop_frames.specs.JsonValues.{or_null};
-ghost use Rattle.framehop_dump_stacks.specs.Dump.{thread_view};
+ghost use Rattle.framehop_dumps.specs.Dump.{thread_view};
 
-use crate::dump::{Cause, Exception, Signal, Thread};
 use crate::signal::is_fault;
 use crate::text::reason_text;
+use framehop_dumps::dump::{Cause, Exception, Signal, Thread};
 use framehop_frames::json_values::address_value;
 use serde_json::{Value, json};
 use std::alloc::{AllocError, Global};

@@ -2,15 +2,15 @@
 ghost use Rattle.std.specs.Prelude.{◌≡◌, IfOk};
 ghost use Rattle.serde_json.specs.Data.{object, no_members};
 ghost use Rattle.serde_json.specs.View.{view};
-ghost use Rattle.framehop_dump_stacks.specs.Dump.{dump_view};
+ghost use Rattle.framehop_dumps.specs.Dump.{dump_view};
 ghost use Rattle.framehop_dump_stacks.specs.JsonReport.{machine_name, dump_members, head_text};
 
-use crate::dump::{Dump, Thread, kind_name};
 use crate::json_crash::crash_value;
 use crate::json_modules::modules_value;
 use crate::json_threads::thread_value;
 use crate::report::Report;
 use framehop_coredump::core_file::Machine;
+use framehop_dumps::dump::{Dump, Thread, kind_name};
 use framehop_explain::Note;
 use framehop_frames::json_files::FilePaths;
 use framehop_frames::json_values::{name_value, number_value};

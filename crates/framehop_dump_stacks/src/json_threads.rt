@@ -3,10 +3,10 @@ ghost use Rattle.std.specs.Prelude.{◌≡◌, map, IfOk};
 ghost use Rattle.serde_json.specs.View.{view};
 ghost use Rattle.framehop_processes.specs.Mappings.{IsInOrder};
 ghost use Rattle.framehop_frames.specs.Stack.{shown_frame, option_stack_view};
-ghost use Rattle.framehop_dump_stacks.specs.Dump.{thread_view};
+ghost use Rattle.framehop_dumps.specs.Dump.{thread_view};
 ghost use Rattle.framehop_dump_stacks.specs.JsonThreads.{frames_of, end_of, end_address_of, thread_data};
 
-use crate::dump::Thread;
+use framehop_dumps::dump::Thread;
 use framehop_frames::json_frames::frames_value;
 use framehop_frames::json_values::{address_value, name_value};
 use framehop_frames::line::{address_of_end, end_name};

@@ -1,15 +1,15 @@
 //! What differs by the machine on which a process ran.
 ghost use Rattle.std.specs.Prelude.{◌≡◌, Option};
-ghost use Rattle.framehop_dump_stacks.specs.Dump.{RegistersView, registers_view};
+ghost use Rattle.framehop_dumps.specs.Dump.{RegistersView, registers_view};
 ghost use Rattle.framehop_frames.specs.declared.machine.Start.{Start};
 
-use crate::dump::Registers;
 use framehop::aarch64::{UnwindRegsAarch64, UnwinderAarch64};
 use framehop::cache::MustNotAllocateDuringUnwind;
 use framehop::section::SectionBytes;
 use framehop::x86_64::{UnwindRegsX86_64, UnwinderX86_64};
 use framehop_core::aarch64::PtrAuthMask;
 use framehop_coredump::registers as kernel;
+use framehop_dumps::dump::Registers;
 use framehop_frames::machine::{Start, Steps};
 use framehop_minidump::registers as context;
 

@@ -3,19 +3,19 @@ ghost use Rattle.std.specs.Prelude.{◌≡◌, true, false, None, Ok, IfOk, IfEr
 ghost use Rattle.framehop_processes.specs.Process.{HasModules};
 ghost use Rattle.framehop_symbols.specs.Files.{placed_at, is_left_out};
 ghost use Rattle.framehop_symbols.specs.MappedBytes.{mapped_sections_view};
-ghost use Rattle.framehop_dump_stacks.specs.Dump.{mapped_code_view, dump_view, head_of};
-ghost use Rattle.framehop_dump_stacks.specs.Image.{sections_in, sections_of};
+ghost use Rattle.framehop_dumps.specs.Dump.{mapped_code_view, dump_view, head_of};
+ghost use Rattle.framehop_dumps.specs.Image.{sections_in, sections_of};
 ghost use Rattle.framehop_dump_stacks.specs.FrameHeaders.{HasHeadersOf};
 ghost use Rattle.framehop_dump_stacks.specs.Ended.{drawn_in, MayEnd};
 ghost use Rattle.framehop_dump_stacks.specs.Modules.{AreLeftOutOf, AreReadOf, base_in, mapping_based, mapping_in, mappings_in, module_with, sections_by, module_at};
 
-use crate::dump::{Dump, MappedCode};
 use crate::error::DumpStacksError;
 use crate::frame_headers::FrameHeaders;
-use crate::image::sections_behind;
 use framehop::Module;
 use framehop::generations::Generations;
 use framehop::section::ExplicitModuleSectionInfo;
+use framehop_dumps::dump::{Dump, MappedCode};
+use framehop_dumps::image::sections_behind;
 use framehop_processes::{Mapping, ModuleMaker, Process, ProcessUnwinder};
 use framehop_symbols::files::{FileSource, FileUnwinder, Files, placed_at};
 use framehop_symbols::mapped_bytes::MappedBytes;

@@ -2,12 +2,12 @@
 ghost use Rattle.std.specs.Prelude.{◌≡◌, Some, None, string_bytes, IfOk};
 ghost use Rattle.framehop_symbols.specs.Found.{has_names};
 ghost use Rattle.framehop.specs.Parts.{is_unwind_data};
-ghost use Rattle.framehop_dump_stacks.specs.Dump.{dump_view};
+ghost use Rattle.framehop_dumps.specs.Dump.{dump_view};
 ghost use Rattle.framehop_dump_stacks.specs.Problems.{range_end, needed_size, sizes_text, cut_text, wow64_text, file_text, lack_text, lack_line, AreObjectLines, IsProblemText, has_frames, is_in_memory, in_memory_text, IsLineOf, AreProblems, IsSaid};
 
-use crate::dump::{Dump, Kind, kind_name};
 use crate::first_mappings::FirstMappings;
 use crate::modules::DumpModules;
+use framehop_dumps::dump::{Dump, Kind, kind_name};
 use framehop_frames::line::push_name;
 use framehop_memory::memory::MemoryRange;
 use framehop_processes::Mapping;

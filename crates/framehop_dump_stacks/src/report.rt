@@ -4,17 +4,17 @@ ghost use Rattle.std.specs.Io.KnownBytes.{Appends};
 ghost use Rattle.framehop.specs.Modules.{UnwinderView};
 ghost use Rattle.framehop.specs.Soundness.{AreApart};
 ghost use Rattle.framehop_frames.specs.Notes.{option_noted, AreStackNotes};
-ghost use Rattle.framehop_dump_stacks.specs.Dump.{thread_view, dump_view, memory_in};
+ghost use Rattle.framehop_dumps.specs.Dump.{thread_view, dump_view, memory_in};
 ghost use Rattle.framehop_dump_stacks.specs.Ended.{MayEnd};
 ghost use Rattle.framehop_dump_stacks.specs.Report.{texts_of};
 ghost use Rattle.framehop_dump_stacks.specs.Walked.{WalkedThread, AreNotesIf, IsWalked, AreWalked};
 
-use crate::dump::{Dump, Thread};
 use crate::error::DumpStacksError;
 use crate::machine::Dumped;
-use crate::stack::walk_thread;
+use crate::stack::{DumpMemory, walk_thread};
 use framehop_backtrace::RowRoom;
 use framehop_cfi::storage::StoreOnStack;
+use framehop_dumps::dump::{Dump, Thread};
 use framehop_explain::Note;
 use framehop_frames::explain::note_stack;
 use framehop_frames::stack::Stack;
@@ -32,7 +32,7 @@ pub trait Report {
     ghost use Rattle.framehop_processes.specs.Mappings.{IsInOrder};
     ghost use Rattle.framehop_processes.specs.declared.mapping.Mapping.{Mapping};
     ghost use Rattle.framehop_symbols.specs.declared.files.Files.{Files};
-    ghost use Rattle.framehop_dump_stacks.specs.Dump.{DumpView, thread_view, dump_view};
+    ghost use Rattle.framehop_dumps.specs.Dump.{DumpView, thread_view, dump_view};
     ghost use Rattle.framehop_dump_stacks.specs.Report.{texts_of};
     ghost use Rattle.framehop_dump_stacks.specs.Walked.{WalkedThread};
 
@@ -228,7 +228,8 @@ fn notes_of<U: Dumped>(
 {
     let mut notes = Vec::new(alloc);
     if explains {
-        note_stack(alloc, process.unwinder(), dump, walked, &mut notes)?;
+        let memory = DumpMemory { dump };
+        note_stack(alloc, process.unwinder(), &memory, walked, &mut notes)?;
     }
     Ok(notes)
 }

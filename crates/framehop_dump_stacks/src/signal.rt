@@ -2,7 +2,7 @@
 ghost use Rattle.std.specs.Prelude.{◌≡◌, ◌++◌, IfOk, codes, option_map, string_bytes};
 ghost use Rattle.framehop_dump_stacks.specs.Signal.{name_in, codes_of_any, illegal_codes, trap_codes, bus_codes, arithmetic_codes, segment_codes, call_codes, codes_of, signal_name, code_name, is_fault, is_sent, signed, number_text, code_text, fields_text, sent_text, signal_text};
 
-use crate::dump::{Sent, Signal};
+use framehop_dumps::dump::{Sent, Signal};
 use std::alloc::{AllocError, Global};
 
 /// `SIGILL`.

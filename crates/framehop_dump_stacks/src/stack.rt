@@ -6,15 +6,15 @@ ghost use Rattle.framehop.specs.Soundness.{AreApart};
 ghost use Rattle.framehop_memory.specs.Memory.{memory_view, word_of};
 ghost use Rattle.framehop_frames.specs.Notes.{option_noted};
 ghost use Rattle.framehop_frames.specs.Stack.{option_stack_view};
-ghost use Rattle.framehop_dump_stacks.specs.Dump.{thread_view, dump_view};
+ghost use Rattle.framehop_dumps.specs.Dump.{thread_view, dump_view};
 ghost use Rattle.framehop_dump_stacks.specs.Walked.{noted_thread};
 ghost use Rattle.framehop_dump_stacks.specs.Thread.{thread_stack};
 
-use crate::dump::{Dump, Thread, is_code_at};
 use crate::machine::Dumped;
 use framehop::walk::Words;
 use framehop_backtrace::{OrElse, RowRoom};
 use framehop_cfi::storage::StoreOnStack;
+use framehop_dumps::dump::{Dump, Thread, is_code_at};
 use framehop_frames::memory::{KnownMemory, MappedMemory};
 use framehop_frames::rows::DebugFrames;
 use framehop_frames::stack::Stack;
@@ -47,7 +47,7 @@ pub(crate) fn walk_thread<U: Dumped>(
         return Ok(None);
     };
     let memory = MappedMemory {
-        known: dump,
+        known: &DumpMemory { dump },
         files,
         process,
     };
@@ -60,30 +60,36 @@ pub(crate) fn walk_thread<U: Dumped>(
     Ok(Some(stack))
 }
 
-impl Words for Dump<'_> {
-    ghost use Rattle.framehop_dump_stacks.specs.Dump.{dump_view, memory_in};
+/// The memory of a dump, and where its code is.
+#[derive(Clone, Copy, Drop)]
+pub(crate) struct DumpMemory<'a, 'm> {
+    pub(crate) dump: &'a Dump<'m>,
+}
 
-    ghost memory = { λ dump. memory_in (dump_view dump) };
+impl Words for DumpMemory<'_, '_> {
+    ghost use Rattle.framehop_dumps.specs.Dump.{dump_view, memory_in};
+
+    ghost memory = { λ memory. memory_in (dump_view memory.dump.now) };
 
     fn read(&self, address: u64) -> Result<u64, ()> {
-        read_memory(&self.memory, address)
+        read_memory(&self.dump.memory, address)
     }
 }
 
-impl KnownMemory for Dump<'_> {
+impl KnownMemory for DumpMemory<'_, '_> {
     ghost use Rattle.framehop_memory.specs.Memory.{memory_view, bytes_after};
-    ghost use Rattle.framehop_dump_stacks.specs.Dump.{dump_view, is_code_at};
+    ghost use Rattle.framehop_dumps.specs.Dump.{dump_view, is_code_at};
 
-    ghost bytes_from = { λ dump. bytes_after (memory_view dump.memory) };
+    ghost bytes_from = { λ memory. bytes_after (memory_view memory.dump.now.memory) };
 
-    ghost is_code = { λ dump. is_code_at (dump_view dump) };
+    ghost is_code = { λ memory. is_code_at (dump_view memory.dump.now) };
 
     fn bytes_from(&self, address: u64) -> Option<&[u8]> {
-        self.memory.bytes_from(address)
+        self.dump.memory.bytes_from(address)
     }
 
     fn is_code(&self, address: u64) -> bool {
-        is_code_at(self, address)
+        is_code_at(self.dump, address)
     }
 }
 

@@ -3,13 +3,13 @@ ghost use Rattle.std.specs.Prelude.{◌≡◌, ◌++◌, option_map, string_byte
 ghost use Rattle.framehop_processes.specs.Mappings.{IsInOrder};
 ghost use Rattle.framehop_frames.specs.Numbered.{numbered_text};
 ghost use Rattle.framehop_frames.specs.Stack.{option_stack_view};
-ghost use Rattle.framehop_dump_stacks.specs.Dump.{thread_view};
+ghost use Rattle.framehop_dumps.specs.Dump.{thread_view};
 ghost use Rattle.framehop_dump_stacks.specs.Text.{name_text, numbers_text, thread_name_text, reason_text, cause_text, thread_head};
 
-use crate::dump::{Cause, Dump, Thread};
 use crate::exception::{exception_text, unnamed_exception};
 use crate::report::Report;
 use crate::signal::signal_text;
+use framehop_dumps::dump::{Cause, Dump, Thread};
 use framehop_explain::Note;
 use framehop_frames::explain::shown_block;
 use framehop_frames::line::{push_name, refused_block};

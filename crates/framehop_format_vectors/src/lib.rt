@@ -5,18 +5,10 @@
 #[cfg(test)]
 mod changed;
 #[cfg(test)]
-mod core_file;
-#[cfg(test)]
 mod elf;
 #[cfg(test)]
 mod inflate;
 #[cfg(test)]
-mod minidump;
-#[cfg(test)]
-mod pe_file;
-#[cfg(test)]
 mod process_memory;
-#[cfg(test)]
-mod recording;
 #[cfg(test)]
 mod segments;

@@ -73,7 +73,7 @@ fn stream_at(entry: &[u8]) -> Stream
 }
 
 /// Returns the first stream of a type.
-pub fn first_stream(streams: &[Stream], stream_type: u32) -> Option<Stream>
+pub(crate) fn first_stream(streams: &[Stream], stream_type: u32) -> Option<Stream>
     ensures { result ≡ stream_of streams.now stream_type }
 {
     streams

@@ -35,7 +35,7 @@ pub fn read_at_rva<'a>(pe: &PeFile<'a>, rva: u32, size: u32) -> Result<&'a [u8],
 }
 
 /// Returns the first section that has so many bytes from an RVA on in the file.
-pub fn section_with_rva(sections: &[SectionHeader], rva: u32, size: u32) -> Option<SectionHeader>
+fn section_with_rva(sections: &[SectionHeader], rva: u32, size: u32) -> Option<SectionHeader>
     ensures exact { result ≡ section_with sections.now rva size }
     ensures before { IfSome result (λ section. section.virtual_address ≤ rva) }
 {

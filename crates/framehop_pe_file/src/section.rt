@@ -9,7 +9,7 @@ use framehop_bytes::string::string_at;
 use std::ops::Range;
 
 /// Returns the first section of a name.
-pub fn section_by_name(sections: &[SectionHeader], name: &[u8]) -> Option<SectionHeader>
+pub(crate) fn section_by_name(sections: &[SectionHeader], name: &[u8]) -> Option<SectionHeader>
     ensures { result ≡ section_called sections.now name.now }
 {
     sections

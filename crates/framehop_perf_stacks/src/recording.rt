@@ -168,7 +168,7 @@ fn add_file<'a, S: FileSource + MapSource>(
 ///
 /// `NoThread` also where the record is of no event that is known, and those of [`read_sample`].
 #[tactic(auto, unfolding(crate::specs::Recording::sample_in))]
-pub fn sample_of<'a>(
+pub(crate) fn sample_of<'a>(
     events: &Events<'_>,
     record: Record<'a>,
 ) -> Result<(Sample<'a>, u64), RecordingError>

@@ -113,11 +113,7 @@ fn read_entries<'a>(
 /// Source: Linux, `perf.data-file-format.txt`, `perf_file_attr`; `include/uapi/linux/perf_event.h`,
 /// `perf_event_attr`; `tools/perf/util/header.c`, `read_attr`.
 #[tactic(auto, unfolding(crate::specs::Attributes::attribute_at))]
-pub fn read_attribute<'a>(
-    file: &'a [u8],
-    at: u64,
-    size: u64,
-) -> Result<Attribute<'a>, RecordingError>
+fn read_attribute<'a>(file: &'a [u8], at: u64, size: u64) -> Result<Attribute<'a>, RecordingError>
     ensures exact { MatchResult result
         (λ attribute. attribute_at file.entry.now at size ≡ Ok (attribute_view attribute))
         (λ error. attribute_at file.entry.now at size ≡ Err error) }

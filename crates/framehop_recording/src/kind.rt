@@ -13,7 +13,7 @@ pub const LOST: u32 = 2;
 pub const COMM: u32 = 3;
 
 /// A thread that ends.
-pub const EXIT: u32 = 4;
+pub(crate) const EXIT: u32 = 4;
 
 /// A thread that begins.
 pub const FORK: u32 = 7;

@@ -3,8 +3,8 @@ use Rattle.std.specs.Prelude.{ℕ, Option, None, option_map}
 use Rattle.framehop_coredump.specs.Registers.{x86_64_registers, aarch64_registers, code_mask_of}
 use Rattle.framehop_coredump.specs.declared.core_file.Machine.{Machine}
 use Rattle.framehop_coredump.specs.declared.core_file.Machine.TheVariants.{X86_64, Aarch64}
-use Rattle.framehop_dump_stacks.specs.declared.dump.Registers.{Registers}
-use Rattle.framehop_dump_stacks.specs.declared.dump.Registers.TheVariants.{Kernel, Context}
+use Rattle.framehop_dumps.specs.declared.dump.Registers.{Registers}
+use Rattle.framehop_dumps.specs.declared.dump.Registers.TheVariants.{Kernel, Context}
 
 -- the stack pointer of a thread, if it has its registers
 abbrev pub stack_pointer : Machine → Registers → Option ℕ

@@ -1,12 +1,17 @@
-//! Worked examples of the library that only calls can show: the other rows are in `checks/cases/`. This crate has only tests.
+//! Worked examples that only calls can show, of the library, of stacks over whole register files, of files that a process maps, and
+//! of the examples in docs/EXAMPLES.md: the other rows are in `checks/cases/`. This crate has only tests.
 #![tactic(auto)]
 
 #[cfg(test)]
 mod asked_names;
 #[cfg(test)]
+mod backtrace;
+#[cfg(test)]
 mod commands;
 #[cfg(test)]
-mod kinds;
+mod elf;
+#[cfg(test)]
+mod files;
 #[cfg(test)]
 mod lent_words;
 #[cfg(test)]
@@ -27,6 +32,8 @@ mod rule_text;
 mod section_info;
 #[cfg(test)]
 mod sections;
+#[cfg(test)]
+mod small;
 #[cfg(test)]
 mod texts;
 #[cfg(test)]

@@ -4,7 +4,6 @@ use hex::FromHexError;
 use std::alloc::Global;
 use std::io;
 use std::io::{Read, Write};
-use std::test::Fail;
 
 /// An input of two commands.
 const MODULE: &str = r#"{"arch":"aarch64","policy":"must","caches":0,"commands":[{"do":"new"},
@@ -36,31 +35,50 @@ impl Read for FailingReader<'_> {
     }
 }
 
+/// An input without commands.
+const NOTHING: &str = r#"{"arch":"aarch64","policy":"may","caches":0,"commands":[]}"#;
+
+/// Runs the program over `NOTHING` and a reader that fails after so many reads, and says whether a read has failed.
+fn run_after(alloc: Global, reads_left: usize) -> (bool, Finished) {
+    let mut reader = Input::new(FailingReader {
+        rest: NOTHING.as_bytes(),
+        reads_left,
+    });
+    let mut out = Output::new(Vec::new(alloc));
+    let mut err = Output::new(Vec::new(alloc));
+    let status = walk_program(alloc, &mut reader, &mut out, &mut err);
+    let finished = Finished {
+        status,
+        out: out.into_inner(),
+        err: err.into_inner(),
+    };
+    (reader.has_failed(), finished)
+}
+
+/// Whether a run has this status, and has written these texts.
+fn is_finished(run: &Finished, status: u8, out: &str, err: &str) -> bool {
+    run.status == status
+        && run.out.as_slice() == out.as_bytes()
+        && run.err.as_slice() == err.as_bytes()
+}
+
+/// Whether a run is refused where it has fewer reads than the input takes, and goes well with as many.
+fn is_stopped(alloc: Global, reads_left: usize, reads: usize) -> bool {
+    let (has_failed, run) = run_after(alloc, reads_left);
+    let (status, err) = if reads_left < reads {
+        (1, "framehop-walk: cannot read input\n")
+    } else {
+        (0, "")
+    };
+    has_failed == (reads_left < reads) && is_finished(&run, status, "", err)
+}
+
 #[test]
-fn stops_at_a_failed_read(rt: HostRuntime) -> Result<(), Fail> {
-    let input = r#"{"arch":"aarch64","policy":"may","caches":0,"commands":[]}"#;
-    let reads = input.len().div_ceil(7) + 1;
+fn stops_at_a_failed_read(rt: HostRuntime) {
+    let reads = NOTHING.len().div_ceil(7) + 1;
     for reads_left in 0..reads + 1 {
-        let mut reader = Input::new(FailingReader {
-            rest: input.as_bytes(),
-            reads_left,
-        });
-        let mut out = Output::new(Vec::new(rt.alloc()));
-        let mut err = Output::new(Vec::new(rt.alloc()));
-        let status = walk_program(rt.alloc(), &mut reader, &mut out, &mut err);
-        assert!(rt; out.into_inner().is_empty());
-        assert_eq!(rt; reader.has_failed(), reads_left < reads);
-        let line = err.into_inner();
-        if reads_left < reads {
-            let want = "framehop-walk: cannot read input\n";
-            assert_eq!(rt; line.as_slice(), want.as_bytes());
-            assert_eq!(rt; status, 1);
-        } else {
-            assert!(rt; line.is_empty());
-            assert_eq!(rt; status, 0);
-        }
+        assert!(rt; is_stopped(rt.alloc(), reads_left, reads), "{reads_left}");
     }
-    Ok(())
 }
 
 /// A writer that takes at most seven bytes a write, and fails after so many writes, and at a flush
@@ -113,7 +131,7 @@ fn run_over(alloc: Global, writes_left: usize, flushes: bool) -> Finished {
 
 /// The lines `new 0` and `add` are written by two writes and a flush.
 #[test]
-fn stops_at_a_failed_write(rt: HostRuntime) -> Result<(), Fail> {
+fn stops_at_a_failed_write(rt: HostRuntime) {
     let line = "framehop-walk: cannot write output\n";
     for (writes_left, flushes, status, out, err) in [
         (0, true, 1, "", line),
@@ -122,29 +140,30 @@ fn stops_at_a_failed_write(rt: HostRuntime) -> Result<(), Fail> {
         (2, true, 0, "new 0\nadd\n", ""),
     ] {
         let run = run_over(rt.alloc(), writes_left, flushes);
-        assert_eq!(rt; run.status, status);
-        assert_eq!(rt; run.out.as_slice(), out.as_bytes());
-        assert_eq!(rt; run.err.as_slice(), err.as_bytes());
+        assert!(rt; is_finished(&run, status, out, err));
     }
-    Ok(())
 }
 
 /// Where the line of a refusal can't be written, the status tells it all the same.
 #[test]
-fn refuses_without_a_line(rt: HostRuntime) -> Result<(), Fail> {
-    let alloc = rt.alloc();
+fn refuses_without_a_line(rt: HostRuntime) {
     let mut err = Output::new(FailingWriter {
-        written: Vec::new(alloc),
+        written: Vec::new(rt.alloc()),
         writes_left: 0,
         flushes: true,
     });
-    assert_eq!(rt; refuse(&mut err, Refusal::NotJson), 1);
-    assert!(rt; err.has_failed());
-    Ok(())
+    let status = refuse(&mut err, Refusal::NotJson);
+    assert!(rt; status == 1 && err.has_failed());
+}
+
+/// Whether a refusal has this status and this line.
+fn is_printed(alloc: Global, refusal: Refusal, status: u8, line: &str) -> bool {
+    let mut err = Output::new(Vec::new(alloc));
+    refuse(&mut err, refusal) == status && err.into_inner().as_slice() == line.as_bytes()
 }
 
 #[test]
-fn prints_refusals(rt: HostRuntime) -> Result<(), Fail> {
+fn prints_refusals(rt: HostRuntime) {
     for (refusal, status, line) in [
         (
             Refusal::Usage,
@@ -163,31 +182,36 @@ fn prints_refusals(rt: HostRuntime) -> Result<(), Fail> {
             "framehop-walk: generations exhausted\n",
         ),
     ] {
-        let mut err = Output::new(Vec::new(rt.alloc()));
-        assert_eq!(rt; refuse(&mut err, refusal), status);
-        assert_eq!(rt; err.into_inner().as_slice(), line.as_bytes());
+        assert!(rt;
+            is_printed(rt.alloc(), refusal, status, line),
+            "{status} {line}"
+        );
     }
-    Ok(())
+}
+
+/// Digits, and their bytes, or why they are refused.
+const DIGITS: [(&str, Result<&[u8], FromHexError>); 4] = [
+    ("00fFa5", Ok(&[0, 255, 0xa5])),
+    ("", Ok(&[])),
+    ("123", Err(FromHexError::OddLength)),
+    (
+        "0g",
+        Err(FromHexError::InvalidHexCharacter { c: 'g', index: 1 }),
+    ),
+];
+
+/// Whether digits are decoded so.
+fn is_decoded(alloc: Global, digits: &str, wanted: Result<&[u8], FromHexError>) -> bool {
+    match (section_bytes(alloc, digits), wanted) {
+        (Ok(bytes), Ok(wanted)) => bytes.as_slice() == wanted,
+        (Err(error), Err(wanted)) => error == wanted,
+        _ => false,
+    }
 }
 
 #[test]
-fn decodes_section_bytes(rt: HostRuntime) -> Result<(), Fail> {
-    let alloc = rt.alloc();
-    assert_eq!(rt;
-        section_bytes(alloc, "00fFa5")?.as_slice(),
-        [0, 255, 0xa5].as_slice()
-    );
-    assert!(rt; section_bytes(alloc, "")?.is_empty());
-    match section_bytes(alloc, "123") {
-        Err(error) => assert_eq!(rt; error, FromHexError::OddLength),
-        Ok(_) => assert!(rt; false, "an odd number of digits"),
+fn decodes_section_bytes(rt: HostRuntime) {
+    for (digits, wanted) in DIGITS {
+        assert!(rt; is_decoded(rt.alloc(), digits, wanted), "{digits}");
     }
-    match section_bytes(alloc, "0g") {
-        Err(error) => assert_eq!(rt;
-            error,
-            FromHexError::InvalidHexCharacter { c: 'g', index: 1 }
-        ),
-        Ok(_) => assert!(rt; false, "no digit"),
-    }
-    Ok(())
 }

@@ -8,7 +8,7 @@ use Rattle.json.specs.Print.{quoted}
 use Rattle.framehop_processes.specs.declared.mapping.Mapping.{Mapping}
 use Rattle.framehop_symbols.specs.declared.files.Files.{Files}
 use Rattle.framehop_frames.specs.declared.json_files.FilePaths.{FilePaths}
-use Rattle.framehop_dump_stacks.specs.Dump.{DumpView}
+use Rattle.framehop_dumps.specs.Dump.{DumpView}
 use Rattle.framehop_dump_stacks.specs.Report.{texts_of}
 use Rattle.framehop_dump_stacks.specs.JsonReport.{dump_members, dump_text, IsDumpText, members_front, head_text, IsHeadText, thread_text, threads_data, end_text}
 use Rattle.framehop_dump_stacks.specs.JsonThreads.{thread_data}

@@ -2,7 +2,7 @@
 use Rattle.std.proofs.Common.{◌≡◌, refl, ℕ, List, [], ◌∷◌, ◌++◌, Bool, true, false, ap, ◌∙◌, append-nil}
 use Rattle.framehop_processes.specs.declared.mapping.Mapping.{Mapping}
 use Rattle.framehop_symbols.specs.declared.files.Files.{Files}
-use Rattle.framehop_dump_stacks.specs.Dump.{DumpView}
+use Rattle.framehop_dumps.specs.Dump.{DumpView}
 use Rattle.framehop_dump_stacks.specs.Report.{texts_of}
 use Rattle.framehop_dump_stacks.specs.Text.{block_text, blocks_text}
 use Rattle.framehop_dump_stacks.specs.Walked.{WalkedThread}

@@ -1,9 +1,9 @@
 //! Rows of aarch64, by hand.
-use crate::columns::frames::{NoCaller, Section, bytes_of, caller_at, memory_of, registers_of};
-use framehop_cfi::rule::Register;
+use crate::columns::frames::{Known, NoCaller, Section, caller_of, has_columns};
 use framehop_cfi::storage::StoreOnStack;
-use framehop_columns::caller::RowRefusal;
+use framehop_columns::caller::{Caller, RowRefusal};
 use framehop_columns::convention::Convention;
+use std::alloc::{AllocError, Global};
 use std::test::Fail;
 
 /// An FDE for 0x1000 to 0x1020: the CFA is sp. After 4 bytes it is sp + 16, x30 is at the CFA - 8 and x19 at the CFA - 16.
@@ -28,53 +28,57 @@ const REGISTERS: [u64; 33] = [
     0xa26, 0xa27, 0xa28, 0xa29, 0xa30, 0x100, 0x1004,
 ];
 
+/// The caller of a frame with those registers, of which one is changed.
+fn found_at(
+    alloc: Global,
+    address: u32,
+    changed: (u16, u64),
+) -> Result<Result<Caller, NoCaller>, AllocError> {
+    let known = Known {
+        registers: &REGISTERS,
+        changed: &[(changed.0, Some(changed.1))],
+        start: 0x100,
+        words: &WORDS,
+        size: 16,
+    };
+    caller_of::<StoreOnStack>(alloc, Convention::Aarch64, &FRAMES, address, &known)
+}
+
+/// Whether there is a caller with this CFA, return address and x19: x18 is not kept, and x20 to x29 are.
+fn is_found(found: Result<Caller, NoCaller>, cfa: u64, x19: u64, lr: u64) -> bool {
+    let Ok(caller) = found else {
+        return false;
+    };
+    let kept = [
+        (0, None),
+        (18, None),
+        (19, Some(x19)),
+        (20, Some(0xa20)),
+        (29, Some(0xa29)),
+        (30, Some(lr)),
+        (31, Some(cfa)),
+        (32, Some(lr)),
+    ];
+    (caller.cfa, caller.return_address) == (cfa, lr) && has_columns(&caller, &kept)
+}
+
 #[test]
 fn finds_callers(rt: HostRuntime) -> Result<(), Fail> {
-    let alloc = rt.alloc();
-    let bytes = bytes_of(alloc, &WORDS)?;
-    let memory = memory_of(alloc, 0x100, bytes.as_slice())?;
-    let regs = registers_of(&REGISTERS, (32, 0x1004));
     // an address, the CFA, x19, and the return address
     for (address, cfa, x19, lr) in [
         (0x1000, 0x100, 0xa19, 0xa30),
         (0x1004, 0x110, 0x1919, 0x3030),
     ] {
-        let convention = Convention::Aarch64;
-        let found = caller_at::<StoreOnStack, _>(
-            alloc, convention, &FRAMES, address, &regs, &memory,
-        )?;
-        let Ok(caller) = found else {
-            return Err(Fail::from("no caller"));
-        };
-        assert_eq!(rt; (caller.cfa, caller.return_address), (cfa, lr));
-        // x18 is not kept, and x20 to x29 are
-        let known = [
-            (18, None),
-            (19, Some(x19)),
-            (20, Some(0xa20)),
-            (29, Some(0xa29)),
-        ];
-        for (column, value) in known {
-            assert_eq!(rt; caller.regs.get(Register(column)), value);
-        }
-        let known = [(0, None), (30, Some(lr)), (31, Some(cfa)), (32, Some(lr))];
-        for (column, value) in known {
-            assert_eq!(rt; caller.regs.get(Register(column)), value);
-        }
+        let found = found_at(rt.alloc(), address, (32, 0x1004))?;
+        assert!(rt; is_found(found, cfa, x19, lr), "{address:x}");
     }
     Ok(())
 }
 
 #[test]
 fn refuses_the_frame_itself(rt: HostRuntime) -> Result<(), Fail> {
-    let alloc = rt.alloc();
-    let bytes = bytes_of(alloc, &WORDS)?;
-    let memory = memory_of(alloc, 0x100, bytes.as_slice())?;
     // lr is pc, and sp stays
-    let regs = registers_of(&REGISTERS, (30, 0x1004));
-    let convention = Convention::Aarch64;
-    let found = caller_at::<StoreOnStack, _>(alloc, convention, &FRAMES, 0x1000, &regs, &memory)?;
-    let refusal = NoCaller::ByRow(RowRefusal::DidNotAdvance);
-    assert_eq!(rt; found.map(|caller| caller.cfa), Err(refusal));
+    let found = found_at(rt.alloc(), 0x1000, (30, 0x1004))?;
+    assert!(rt; found.err() == Some(NoCaller::ByRow(RowRefusal::DidNotAdvance)));
     Ok(())
 }

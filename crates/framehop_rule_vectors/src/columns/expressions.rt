@@ -44,20 +44,31 @@ fn only_sp() -> RegisterFile {
     regs
 }
 
-#[test]
-fn evaluates(rt: HostRuntime) -> Result<(), Fail> {
-    let alloc = rt.alloc();
+/// The value of a part of code over that memory, which begins with a value or with none.
+fn value_of(
+    alloc: Global,
+    code: &[u8],
+    part: Expression,
+    first: Option<u64>,
+) -> Result<Option<u64>, AllocError> {
     let bytes = bytes_of(alloc, &WORDS)?;
     let memory = memory_of(alloc, 0x1000, bytes.as_slice())?;
+    Ok(evaluate(alloc, code, part, &only_sp(), &memory, first))
+}
+
+/// All of code.
+fn whole(code: &[u8]) -> Expression {
+    Expression {
+        start: 0,
+        end: code.len(),
+    }
+}
+
+#[test]
+fn evaluates(rt: HostRuntime) -> Result<(), Fail> {
     for (code, value) in EXPRESSIONS {
-        let whole = Expression {
-            start: 0,
-            end: code.len(),
-        };
-        assert_eq!(rt;
-            evaluate(alloc, code, whole, &only_sp(), &memory, None),
-            value
-        );
+        let found = value_of(rt.alloc(), code, whole(code), None)?;
+        assert!(rt; found == value);
     }
     Ok(())
 }
@@ -92,27 +103,22 @@ const BASES: [(&'static [u8], Option<CfaBase>); 5] = [
 ];
 
 #[test]
-fn counts_from_a_register_or_a_word(rt: HostRuntime) -> Result<(), Fail> {
+fn counts_from_a_register_or_a_word(rt: HostRuntime) {
     for (code, base) in BASES {
-        let whole = Expression {
-            start: 0,
-            end: code.len(),
-        };
-        assert_eq!(rt; base_of(code, CfaRule::Expression(whole)), base);
+        assert!(rt; base_of(code, CfaRule::Expression(whole(code))) == base);
     }
     let rule = CfaRule::RegisterAndOffset {
         register: Register(7),
         offset: 16,
     };
-    assert_eq!(rt; base_of(&[], rule), Some(CfaBase::Register(Register(7))));
-    Ok(())
+    assert!(rt; base_of(&[], rule) == Some(CfaBase::Register(Register(7))));
 }
+
+/// `DW_OP_over`, `DW_OP_deref`, `DW_OP_over`.
+const PARTS: &[u8] = &[0x13, 0x06, 0x13];
 
 #[test]
 fn begins_with_the_first_value(rt: HostRuntime) -> Result<(), Fail> {
-    let alloc = rt.alloc();
-    let bytes = bytes_of(alloc, &WORDS)?;
-    let memory = memory_of(alloc, 0x1000, bytes.as_slice())?;
     // the DW_OP_deref at 1, and places that are no part of the section
     for (start, end, value) in [
         (1, 2, Some(0x9988776655443322)),
@@ -120,33 +126,27 @@ fn begins_with_the_first_value(rt: HostRuntime) -> Result<(), Fail> {
         (1, 4, None),
         (3, 3, Some(0x1001)),
     ] {
-        let part = Expression { start, end };
-        let found = evaluate(
-            alloc,
-            &[0x13, 0x06, 0x13],
-            part,
-            &only_sp(),
-            &memory,
-            Some(0x1001),
-        );
-        assert_eq!(rt; found, value);
+        let found = value_of(rt.alloc(), PARTS, Expression { start, end }, Some(0x1001))?;
+        assert!(rt; found == value, "{start} {end}");
     }
     Ok(())
 }
 
-/// Returns so many times an operation.
-fn repeated(alloc: Global, operation: u8, count: usize) -> Result<Vec<u8>, AllocError> {
+/// The value of so many times an operation.
+fn value_of_repeated(
+    alloc: Global,
+    operation: u8,
+    count: usize,
+) -> Result<Option<u64>, AllocError> {
     let mut code = Vec::new(alloc);
     for _ in 0..count {
         code.push(operation)?;
     }
-    Ok(code)
+    value_of(alloc, code.as_slice(), whole(code.as_slice()), Some(7))
 }
 
 #[test]
 fn has_limits(rt: HostRuntime) -> Result<(), Fail> {
-    let alloc = rt.alloc();
-    let memory = memory_of(alloc, 0x1000, &[])?;
     // DW_OP_nop, and DW_OP_lit0: 4,096 operations are carried out, and 64 values fit
     for (operation, count, value) in [
         (0x96, 4096, Some(7)),
@@ -154,30 +154,32 @@ fn has_limits(rt: HostRuntime) -> Result<(), Fail> {
         (0x30, 63, Some(0)),
         (0x30, 64, None),
     ] {
-        let code = repeated(alloc, operation, count)?;
-        let whole = Expression {
-            start: 0,
-            end: count,
-        };
-        let found = evaluate(alloc, code.as_slice(), whole, &only_sp(), &memory, Some(7));
-        assert_eq!(rt; found, value);
+        assert!(rt;
+            value_of_repeated(rt.alloc(), operation, count)? == value,
+            "{count}"
+        );
     }
     Ok(())
 }
 
-#[test]
-fn keeps_33_columns(rt: HostRuntime) -> Result<(), Fail> {
+/// Whether a file of registers keeps the 33 columns from 0 on, and no other.
+fn keeps_columns() -> bool {
     let mut regs = RegisterFile::new();
     for column in 0..34u16 {
-        assert_eq!(rt; regs.get(Register(column)), None);
         regs.set(Register(column), Some(u64::from(column)));
     }
-    for column in 0..33u16 {
-        assert_eq!(rt; regs.get(Register(column)), Some(u64::from(column)));
-    }
-    assert_eq!(rt; regs.get(Register(33)), None);
     regs.set(Register(5), None);
-    assert_eq!(rt; regs.get(Register(5)), None);
-    assert_eq!(rt; regs.get(Register(6)), Some(6));
-    Ok(())
+    for column in 0..34u16 {
+        let is_kept = column != 5 && column != 33;
+        if regs.get(Register(column)) != is_kept.then_some(u64::from(column)) {
+            return false;
+        }
+    }
+    true
+}
+
+#[test]
+fn keeps_33_columns(rt: HostRuntime) {
+    assert!(rt; RegisterFile::new().get(Register(5)).is_none());
+    assert!(rt; keeps_columns());
 }

@@ -1,4 +1,5 @@
 //! What the tests need: sections, registers and a memory.
+use framehop_bytes::bytes::front;
 use framehop_cfi::context::UnwindContext;
 use framehop_cfi::entry::{UnwindSection, UnwindSectionType};
 use framehop_cfi::pointer::BaseAddresses;
@@ -31,6 +32,17 @@ pub(crate) enum NoCaller {
     ByRow(RowRefusal),
 }
 
+/// A frame of which these registers are known, by their columns from 0 on, but for those that are changed; and memory that has
+/// words from an address on, as far as so many bytes.
+#[derive(Clone, Copy)]
+pub(crate) struct Known<'a> {
+    pub(crate) registers: &'a [u64],
+    pub(crate) changed: &'a [(u16, Option<u64>)],
+    pub(crate) start: u64,
+    pub(crate) words: &'a [u64],
+    pub(crate) size: usize,
+}
+
 /// Returns the bytes of words.
 pub(crate) fn bytes_of(alloc: Global, words: &[u64]) -> Result<Vec<u8>, AllocError> {
     let mut bytes = Vec::new(alloc);
@@ -55,20 +67,46 @@ pub(crate) fn memory_of(
     ProcessMemory::new(alloc, bytes, ranges)
 }
 
-/// Returns registers by their columns from 0 on, of which one has another value.
-pub(crate) fn registers_of(values: &[u64], changed: (u16, u64)) -> RegisterFile {
+/// Returns the registers of a frame.
+fn registers_of(known: &Known<'_>) -> RegisterFile {
     let mut regs = RegisterFile::new();
     let mut column = 0;
-    for value in values {
+    for value in known.registers {
         regs.set(Register(column), Some(*value));
         column = column.saturating_add(1);
     }
-    regs.set(Register(changed.0), Some(changed.1));
+    for (column, value) in known.changed {
+        regs.set(Register(*column), *value);
+    }
     regs
 }
 
 /// Returns the caller of a frame at an address, an SVMA, by the FDE of a section.
-pub(crate) fn caller_at<S: UnwindContextStorage, M: WordMemory>(
+pub(crate) fn caller_of<S: UnwindContextStorage>(
+    alloc: Global,
+    convention: Convention,
+    section: &Section,
+    address: u32,
+    known: &Known<'_>,
+) -> Result<Result<Caller, NoCaller>, AllocError> {
+    let bytes = bytes_of(alloc, known.words)?;
+    let memory = memory_of(alloc, known.start, front(bytes.as_slice(), known.size))?;
+    let regs = registers_of(known);
+    caller_at::<S, _>(alloc, convention, section, address, &regs, &memory)
+}
+
+/// Whether a caller has these columns.
+pub(crate) fn has_columns(caller: &Caller, columns: &[(u16, Option<u64>)]) -> bool {
+    for (column, value) in columns {
+        if caller.regs.get(Register(*column)) != *value {
+            return false;
+        }
+    }
+    true
+}
+
+/// Returns the caller of a frame with these registers, over a memory.
+fn caller_at<S: UnwindContextStorage, M: WordMemory>(
     alloc: Global,
     convention: Convention,
     section: &Section,

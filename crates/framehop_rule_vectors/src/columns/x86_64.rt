@@ -2,11 +2,10 @@
 //! and libc 2.36 each, of Debian, next to one another. The expected values are those that gdb 13.1 prints of the caller's
 //! frame, by `scripts/callers.py`, but for registers that the row doesn't name and that calls may change: gdb keeps their
 //! values, and nothing is known of them.
-use crate::columns::frames::{NoCaller, Section, bytes_of, caller_at, memory_of, registers_of};
-use framehop_bytes::bytes::front;
+use crate::columns::frames::{Known, NoCaller, Section, caller_of};
 use framehop_cfi::rule::Register;
 use framehop_cfi::storage::{StoreOnHeap, StoreOnStack};
-use framehop_columns::caller::RowRefusal;
+use framehop_columns::caller::{Caller, RowRefusal};
 use framehop_columns::convention::Convention;
 use std::test::Fail;
 
@@ -244,40 +243,55 @@ const CASES: [Case; 5] = [
     },
 ];
 
+/// What is known of a frame, of which registers are changed, with so many bytes of the memory.
+fn known(changed: &[(u16, Option<u64>)], size: usize) -> Known<'_> {
+    Known {
+        registers: &REGISTERS,
+        changed,
+        start: START,
+        words: &WORDS,
+        size,
+    }
+}
+
+/// Whether there is a caller with this CFA and these columns. Nothing is known of columns from 17 on.
+fn is_of(found: Result<Caller, NoCaller>, cfa: u64, columns: [Option<u64>; 17]) -> bool {
+    let Ok(caller) = found else {
+        return false;
+    };
+    for column in 0..33u16 {
+        let value = columns.get(column as usize).copied().unwrap_or(None);
+        if caller.regs.get(Register(column)) != value {
+            return false;
+        }
+    }
+    caller.cfa == cfa && Some(caller.return_address) == columns[16]
+}
+
 #[test]
 fn finds_callers(rt: HostRuntime) -> Result<(), Fail> {
     let alloc = rt.alloc();
-    let bytes = bytes_of(alloc, &WORDS)?;
-    let memory = memory_of(alloc, START, bytes.as_slice())?;
     let convention = Convention::X86_64;
     for case in CASES {
-        let Case {
-            section,
-            address,
-            changed,
-            cfa,
-            caller: columns,
-        } = case;
-        let regs = registers_of(&REGISTERS, changed);
-        let found = caller_at::<StoreOnStack, _>(
-            alloc, convention, &section, address, &regs, &memory,
+        let changed = [(case.changed.0, Some(case.changed.1))];
+        let known = known(&changed, 176);
+        let found = caller_of::<StoreOnStack>(
+            alloc,
+            convention,
+            &case.section,
+            case.address,
+            &known,
         )?;
-        let Ok(caller) = found else {
-            return Err(Fail::from("no caller"));
-        };
-        assert_eq!(rt; caller.cfa, cfa);
-        assert_eq!(rt; Some(caller.return_address), columns[16]);
-        for (column, value) in columns.iter().enumerate() {
-            assert_eq!(rt; caller.regs.get(Register(column as u16)), *value);
-        }
-        for column in 17..33u16 {
-            assert_eq!(rt; caller.regs.get(Register(column)), None);
-        }
+        assert!(rt; is_of(found, case.cfa, case.caller), "{:x}", case.address);
         // the same with rows that grow in memory
-        let found = caller_at::<StoreOnHeap, _>(
-            alloc, convention, &section, address, &regs, &memory,
+        let found = caller_of::<StoreOnHeap>(
+            alloc,
+            convention,
+            &case.section,
+            case.address,
+            &known,
         )?;
-        assert_eq!(rt; found.map(|caller| caller.cfa), Ok(cfa));
+        assert!(rt; is_of(found, case.cfa, case.caller), "{:x}", case.address);
     }
     Ok(())
 }
@@ -305,23 +319,19 @@ const REFUSED: [(usize, usize, u16, NoCaller); 4] = [
 #[test]
 fn refuses_what_is_not_known(rt: HostRuntime) -> Result<(), Fail> {
     let alloc = rt.alloc();
-    let bytes = bytes_of(alloc, &WORDS)?;
+    let convention = Convention::X86_64;
     for (case, size, register, refusal) in REFUSED {
         let case = CASES.get(case).copied().ok_or("no case")?;
-        let Case {
-            section,
-            address,
-            changed,
-            ..
-        } = case;
-        let memory = memory_of(alloc, START, front(bytes.as_slice(), size))?;
-        let mut regs = registers_of(&REGISTERS, changed);
-        regs.set(Register(register), None);
-        let convention = Convention::X86_64;
-        let found = caller_at::<StoreOnStack, _>(
-            alloc, convention, &section, address, &regs, &memory,
+        let changed = [(case.changed.0, Some(case.changed.1)), (register, None)];
+        let known = known(&changed, size);
+        let found = caller_of::<StoreOnStack>(
+            alloc,
+            convention,
+            &case.section,
+            case.address,
+            &known,
         )?;
-        assert_eq!(rt; found.map(|caller| caller.cfa), Err(refusal));
+        assert!(rt; found.err() == Some(refusal), "{:x}", case.address);
     }
     Ok(())
 }
@@ -340,22 +350,21 @@ const OUTERMOST: Section = Section {
 
 #[test]
 fn refuses_where_there_is_no_caller(rt: HostRuntime) -> Result<(), Fail> {
-    let alloc = rt.alloc();
-    let bytes = bytes_of(alloc, &WORDS)?;
-    let memory = memory_of(alloc, START, bytes.as_slice())?;
-    let regs = registers_of(&REGISTERS, (16, 0x1000));
-    let convention = Convention::X86_64;
-    let refusals = [
+    let known = known(&[(16, Some(0x1000))], 176);
+    for (fde, address, refusal) in [
         (24, 0x1000, NoCaller::ByRow(RowRefusal::Outermost)),
         (24, 0x1020, NoCaller::NoRow),
         (0, 0x1000, NoCaller::NoFde),
-    ];
-    for (fde, address, refusal) in refusals {
+    ] {
         let section = Section { fde, ..OUTERMOST };
-        let found = caller_at::<StoreOnHeap, _>(
-            alloc, convention, &section, address, &regs, &memory,
+        let found = caller_of::<StoreOnHeap>(
+            rt.alloc(),
+            Convention::X86_64,
+            &section,
+            address,
+            &known,
         )?;
-        assert_eq!(rt; found.map(|caller| caller.cfa), Err(refusal));
+        assert!(rt; found.err() == Some(refusal), "{fde} {address:x}");
     }
     Ok(())
 }

@@ -19,7 +19,7 @@ pub fn word_at(bytes: &[u8], at: usize) -> Option<u32>
 
 /// Returns whether the slice has this instruction word at the offset (in bytes).
 #[inline]
-pub fn has_word(bytes: &[u8], at: usize, word: u32) -> bool
+pub(crate) fn has_word(bytes: &[u8], at: usize, word: u32) -> bool
     ensures value { IsTrue result ↔ (word_at bytes.now at ≡ Some word) }
     ensures within { IsTrue result → at + 4 ≤ length bytes.now }
 {

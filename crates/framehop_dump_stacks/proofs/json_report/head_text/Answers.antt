@@ -2,7 +2,7 @@ use Rattle.std.proofs.Common.{◌≡◌, ◌∙◌, ◌++◌, ◌-◌, codes, ap
 use Rattle.std.specs.Vec.{vec_len}
 use Rattle.serde_json.specs.Data.{object, no_members}
 use Rattle.serde_json.specs.Written.{compact_text, has_float}
-use Rattle.framehop_dump_stacks.specs.Dump.{dump_view}
+use Rattle.framehop_dumps.specs.Dump.{dump_view}
 use Rattle.framehop_dump_stacks.specs.JsonReport.{dump_members}
 use Rattle.framehop_dump_stacks.proofs.JsonHeadLemmas.{without-brace}
 use Rattle.framehop_dump_stacks.proofs.JsonFloats.{head-none}

@@ -1,8 +1,8 @@
 use Rattle.std.proofs.Common.{◌≡◌, ◌<◌, ℕ, List, [], map, drop, length, refl, sym, subst, arith}
 use Rattle.std.proofs.lemmas.List.{at_drop_all}
 use Rattle.framehop_dump_stacks.proofs.DumpLemmas.{code-left}
-use Rattle.framehop_dump_stacks.specs.Added.{AreAddedLeftOut}
-use Rattle.framehop_dump_stacks.specs.Dump.{MappedCodeView, mapped_code_view}
+use Rattle.framehop_dumps.specs.Added.{AreAddedLeftOut}
+use Rattle.framehop_dumps.specs.Dump.{MappedCodeView, mapped_code_view}
 use Rattle.framehop_dump_stacks.proofs.modules.leave_out_files.Goals as goal
 
 abbrev named : MappedCodeView → List ℕ

@@ -1,6 +1,6 @@
 use Rattle.std.proofs.Common.{◌≡◌, [], map, drop, ap, sym, ◌∙◌, arith}
 use Rattle.std.proofs.lemmas.List.{at_drop_all}
-use Rattle.framehop_dump_stacks.specs.Dump.{mapped_code_view}
+use Rattle.framehop_dumps.specs.Dump.{mapped_code_view}
 use Rattle.framehop_dump_stacks.specs.Modules.{mappings_over}
 use Rattle.framehop_dump_stacks.proofs.modules.map_files.Goals as goal
 

@@ -1,6 +1,6 @@
 use Rattle.std.proofs.Common.{◌≡◌, ◌+◌, map, drop}
 use Rattle.framehop_processes.specs.Process.{HasModules}
-use Rattle.framehop_dump_stacks.specs.Dump.{mapped_code_view, dump_view}
+use Rattle.framehop_dumps.specs.Dump.{mapped_code_view, dump_view}
 use Rattle.framehop_dump_stacks.specs.Ended.{drawn_over, drawn_in}
 use Rattle.framehop_dump_stacks.specs.Modules.{mappings_over, mappings_in}
 use Rattle.framehop_dump_stacks.proofs.modules.map_files.Given as goal

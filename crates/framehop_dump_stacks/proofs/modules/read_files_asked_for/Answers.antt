@@ -2,8 +2,8 @@ use Rattle.std.proofs.Common.{◌≡◌, ◌<◌, ◌+◌, ℕ, List, [], true, 
 use Rattle.std.proofs.lemmas.List.{at_drop_all}
 use Rattle.framehop_symbols.specs.declared.files.Files.{Files}
 use Rattle.framehop_dump_stacks.proofs.DumpLemmas.{code-left}
-use Rattle.framehop_dump_stacks.specs.Added.{AreReadSince}
-use Rattle.framehop_dump_stacks.specs.Dump.{MappedCodeView, mapped_code_view}
+use Rattle.framehop_dumps.specs.Added.{AreReadSince}
+use Rattle.framehop_dumps.specs.Dump.{MappedCodeView, mapped_code_view}
 use Rattle.framehop_dump_stacks.proofs.modules.read_files_asked_for.Goals as goal
 use Rattle.framehop_dump_stacks.proofs.modules.read_files_asked_for.Goals.{then-is_to_be_read+in_ok-read_left_out, else-is_to_be_read}
 

@@ -1,4 +1,4 @@
-use Rattle.framehop_dump_stacks.specs.Dump.{dump_view}
+use Rattle.framehop_dumps.specs.Dump.{dump_view}
 use Rattle.framehop_dump_stacks.proofs.ProblemLemmas.{AreToldUpTo}
 use Rattle.framehop_dump_stacks.proofs.problems.problems_text.Given as goal
 

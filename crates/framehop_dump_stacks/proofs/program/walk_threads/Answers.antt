@@ -1,7 +1,7 @@
 use Rattle.std.proofs.Common.{◌≡◌, ◌∙◌, Bool, false, inr, sym, subst}
 use Rattle.framehop_symbols.specs.declared.files.Files.{Files}
-use Rattle.framehop_dump_stacks.specs.Added.{more, none}
-use Rattle.framehop_dump_stacks.specs.Dump.{dump_view}
+use Rattle.framehop_dumps.specs.Added.{more, none}
+use Rattle.framehop_dumps.specs.Dump.{dump_view}
 use Rattle.framehop_dump_stacks.specs.Ended.{MayEndWithFiles}
 use Rattle.framehop_dump_stacks.specs.Modules.{AreFilesAsked, AreFilesFor}
 use Rattle.framehop_dump_stacks.proofs.AskedLemmas.{done-always, failed-more, read-for}

@@ -1,4 +1,4 @@
-use Rattle.framehop_dump_stacks.specs.Dump.{dump_view}
+use Rattle.framehop_dumps.specs.Dump.{dump_view}
 use Rattle.framehop_dump_stacks.specs.Modules.{AreFilesAsked}
 use Rattle.framehop_dump_stacks.proofs.program.walk_threads.Given as goal
 

@@ -1,5 +1,5 @@
 use Rattle.std.proofs.Common.{◌||◌, inr}
-use Rattle.framehop_dump_stacks.specs.Dump.{dump_view}
+use Rattle.framehop_dumps.specs.Dump.{dump_view}
 use Rattle.framehop_dump_stacks.specs.Ended.{MayEndWithFiles}
 use Rattle.framehop_dump_stacks.proofs.AskedLemmas.{failed-more, files-failed}
 use Rattle.framehop_dump_stacks.proofs.EndLemmas.{failed_as}

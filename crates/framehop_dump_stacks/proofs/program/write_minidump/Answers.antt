@@ -1,8 +1,8 @@
 use Rattle.std.proofs.Common.{◌||◌, ℕ, List, inr, map, subst}
 use Rattle.std.specs.Io.KnownBytes.{Appends}
-use Rattle.framehop_dump_stacks.specs.Dump.{DumpView, dump_view}
+use Rattle.framehop_dumps.specs.Dump.{DumpView, dump_view}
 use Rattle.framehop_dump_stacks.specs.Ended.{drawn_in, MayEnd, MayEndWithModules}
-use Rattle.framehop_dump_stacks.specs.Minidump.{loaded_view}
+use Rattle.framehop_dumps.specs.Minidump.{loaded_view}
 use Rattle.framehop_dump_stacks.specs.Modules.{mappings_in}
 use Rattle.framehop_dump_stacks.specs.Problems.{IsSaid}
 use Rattle.framehop_dump_stacks.specs.Report.{IsReportOf}

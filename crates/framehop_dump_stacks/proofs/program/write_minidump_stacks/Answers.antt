@@ -1,8 +1,8 @@
 use Rattle.std.proofs.Common.{◌≡◌, ◌⊎◌, ◌||◌, List, inl, inr, ⊎_elim, Err, rules, subst}
 use Rattle.framehop_minidump.specs.declared.error.MinidumpError.{MinidumpError}
-use Rattle.framehop_dump_stacks.specs.Dump.{DumpView, dump_view}
+use Rattle.framehop_dumps.specs.Dump.{DumpView, dump_view}
 use Rattle.framehop_dump_stacks.specs.Ended.{MayEndWithModules}
-use Rattle.framehop_dump_stacks.specs.Minidump.{LoadedView, parts_view, minidump_of}
+use Rattle.framehop_dumps.specs.Minidump.{LoadedView, parts_view, minidump_of}
 use Rattle.framehop_dump_stacks.proofs.EndLemmas.{failed_as, ok-same}
 use Rattle.framehop_dump_stacks.proofs.MinidumpLemmas.{minidump-is, refused-first, refused-second, not-both}
 use Rattle.framehop_dump_stacks.proofs.program.write_minidump_stacks.Goals as goal

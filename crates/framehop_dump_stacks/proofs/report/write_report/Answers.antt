@@ -2,7 +2,7 @@ use Rattle.std.proofs.Common.{◌++◌, false, ℕ, List, subst}
 use Rattle.std.specs.Io.KnownBytes.{Appends}
 use Rattle.std.proofs.KnownBytes.{Appends-trans}
 use Rattle.framehop_processes.specs.declared.mapping.Mapping.{Mapping}
-use Rattle.framehop_dump_stacks.specs.Dump.{dump_view}
+use Rattle.framehop_dumps.specs.Dump.{dump_view}
 use Rattle.framehop_dump_stacks.specs.Report.{texts_of}
 use Rattle.framehop_dump_stacks.proofs.AskedLemmas.{done-more}
 use Rattle.framehop_dump_stacks.proofs.report.write_report.Goals as goal

@@ -1,5 +1,5 @@
 use Rattle.std.proofs.Common.{◌≡◌}
-use Rattle.framehop_dump_stacks.specs.Dump.{dump_view}
+use Rattle.framehop_dumps.specs.Dump.{dump_view}
 use Rattle.framehop_dump_stacks.proofs.ReportLemmas.{AreWalkedUpTo}
 use Rattle.framehop_dump_stacks.proofs.report.write_threads.Given as goal
 

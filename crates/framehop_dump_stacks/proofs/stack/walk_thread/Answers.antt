@@ -7,7 +7,7 @@ use Rattle.framehop_frames.specs.Notes.{noted_from, NotedStack}
 use Rattle.framehop_frames.specs.Rows.{debug_rows, rows_in}
 use Rattle.framehop_frames.specs.Walker.{row_limits}
 use Rattle.framehop_frames.specs.Stack.{stack_from}
-use Rattle.framehop_dump_stacks.specs.Dump.{dump_view, memory_in}
+use Rattle.framehop_dumps.specs.Dump.{dump_view, memory_in}
 use Rattle.framehop_dump_stacks.specs.Thread.{code_in, dumped_from}
 use Rattle.framehop_dump_stacks.proofs.stack.walk_thread.Goals as goal
 

@@ -1,6 +1,6 @@
 use Rattle.std.proofs.Common.{◌∙◌, ap, sym}
-use Rattle.framehop_dump_stacks.specs.Dump.{mapped_code_view}
-use Rattle.framehop_dump_stacks.specs.Image.{eh_frame_header}
+use Rattle.framehop_dumps.specs.Dump.{mapped_code_view}
+use Rattle.framehop_dumps.specs.Image.{eh_frame_header}
 use Rattle.framehop_dump_stacks.proofs.FrameHeaderLemmas.{code-before, code-now}
 use Rattle.framehop_dump_stacks.proofs.frame_headers.FrameHeaders.keep.Goals as goal
 

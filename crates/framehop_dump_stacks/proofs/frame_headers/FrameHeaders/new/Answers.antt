@@ -1,6 +1,6 @@
 use Rattle.std.proofs.Common.{◌<◌, length, map, ap, ◌∙◌, arith}
 use Rattle.std.proofs.lemmas.List.{take_all}
-use Rattle.framehop_dump_stacks.specs.Dump.{mapped_code_view}
+use Rattle.framehop_dumps.specs.Dump.{mapped_code_view}
 use Rattle.framehop_dump_stacks.specs.FrameHeaders.{first_header}
 use Rattle.framehop_dump_stacks.proofs.FrameHeaderLemmas.{one-more-code}
 use Rattle.framehop_dump_stacks.proofs.frame_headers.FrameHeaders.new.Goals as goal

@@ -1,5 +1,5 @@
 use Rattle.std.proofs.Common.{map, take}
-use Rattle.framehop_dump_stacks.specs.Dump.{mapped_code_view}
+use Rattle.framehop_dumps.specs.Dump.{mapped_code_view}
 use Rattle.framehop_dump_stacks.specs.FrameHeaders.{HasHeadersOf}
 use Rattle.framehop_dump_stacks.proofs.frame_headers.FrameHeaders.new.Given as goal
 

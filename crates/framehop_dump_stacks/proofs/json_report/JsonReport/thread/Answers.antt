@@ -1,6 +1,6 @@
 use Rattle.std.proofs.Common.{◌≡◌, ◌∙◌, ◌++◌, ap, rules}
 use Rattle.serde_json.specs.Written.{compact_text, has_float}
-use Rattle.framehop_dump_stacks.specs.Dump.{thread_view}
+use Rattle.framehop_dumps.specs.Dump.{thread_view}
 use Rattle.framehop_frames.specs.Stack.{option_stack_view}
 use Rattle.framehop_dump_stacks.proofs.JsonFloats.{thread-none}
 use Rattle.framehop_dump_stacks.proofs.json_report.JsonReport.thread.Goals as goal

@@ -1,8 +1,8 @@
 -- The segment that has `.eh_frame_hdr` is the one that is kept for the path.
 use Rattle.std.proofs.Common.{ap, ◌∙◌}
 use Rattle.framehop_memory.specs.Memory.{memory_view}
-use Rattle.framehop_dump_stacks.specs.Dump.{dump_view}
-use Rattle.framehop_dump_stacks.specs.Image.{frames_behind, sections_of}
+use Rattle.framehop_dumps.specs.Dump.{dump_view}
+use Rattle.framehop_dumps.specs.Image.{frames_behind, sections_of}
 use Rattle.framehop_dump_stacks.proofs.FrameHeaderLemmas.{code-kept}
 use Rattle.framehop_dump_stacks.proofs.modules.DumpModules.sections_in.Goals as goal
 
