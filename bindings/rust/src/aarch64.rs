@@ -90,6 +90,12 @@ impl FrameWords for UnwindRegsAarch64 {
         frame_pointer < caller_frame_pointer
     }
 
+    #[inline(always)]
+    fn upwards<T>([first, last]: [T; 2]) -> [T; 2] {
+        [last, first]
+    }
+
+    #[inline(always)]
     /// Each rule reads it first.
     fn return_address(&self, words: [u64; 2]) -> u64 {
         self.lr_mask().strip_ptr_auth(words[0])

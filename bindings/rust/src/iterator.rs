@@ -3,9 +3,9 @@
 //! Which words the step from a return address asks for, and where they lead, is mostly known from earlier steps there
 //! (`layouts`). So the words of several frames are read before any of these is unwound, each word that the steps will ask for
 //! in its order, and none else. The archive then walks over them: which frames they are is for it to say.
-use crate::layouts::{Asked, Layout, Layouts, Pointers};
+use crate::layouts::{Asked, Layout, Layouts, Place, Pointers};
 use crate::unwinder::{Frame, FrameWords, Kept, Step, Tries, Unwinder};
-use crate::words::{Known, RunWords, read_told};
+use crate::words::{Known, RunWords, read_asked};
 use crate::{Error, FrameAddress, raw};
 use std::cell::OnceCell;
 
@@ -205,32 +205,38 @@ impl<R: FrameWords> Run<R> {
             self.start = Some((from.address, *regs));
         }
         let ahead = std::mem::take(&mut self.ahead);
-        let (count, mut known) = if ahead.is_repeated() {
+        let (count, stop) = if ahead.is_repeated() {
             read_run(&kept.layouts, from, regs, limit, &mut kept.run_words, read_stack)
         } else {
-            (0, None)
+            (0, Stop::Unread)
         };
-        let mut from = from;
-        if count > 0 {
-            if count == 1 {
-                self.step(step, from.address, regs, kept);
-            } else {
-                self.walk(step, from.address, regs, count, kept);
-            }
-            if self.count < count {
-                known = None;
-            }
-            match self.last() {
-                _ if self.end.is_some() => return,
-                Some(last) if known.is_some() => from.address = last,
-                Some(_) => return,
-                None => {}
-            }
+        if count == 1 {
+            self.step(step, from.address, regs, kept);
+        } else if count > 1 {
+            self.walk(step, from.address, regs, count, kept);
         }
-        let (known, ahead) = match known {
-            Some((known, ahead)) => (known, Ahead(ahead)),
-            None => (Known::read(&ahead.0, read_stack), ahead),
-        };
+        let is_whole = self.count == count;
+        if self.end.is_none() && (self.count == 0 || is_whole && matches!(stop, Stop::Read(..))) {
+            let from = Frame { address: self.last().unwrap_or(from.address), ..from };
+            let told = match stop {
+                Stop::Read(asked, read) if is_whole => (Known::of(asked, read), Ahead(raw::Ahead::of(asked))),
+                _ => (Known::read(&ahead.0, read_stack), ahead),
+            };
+            self.find_told(step, from, regs, kept, told, read_stack);
+        }
+    }
+
+    /// Finds a frame by a step that also tells the words of its caller, with the words that were told and read.
+    #[inline(always)]
+    fn find_told(
+        &mut self,
+        step: &impl Step<R>,
+        from: Frame,
+        regs: &mut R,
+        kept: &mut Kept,
+        (known, ahead): (Known, Ahead),
+        read_stack: &mut impl FnMut(u64) -> Result<u64, ()>,
+    ) {
         let told = next_told(step, from, regs, kept, &known, ahead, read_stack);
         self.ahead = told.map_or(Ahead::default(), |told| told.1);
         self.add(told.map(|told| told.0));
@@ -279,9 +285,98 @@ impl<R: FrameWords> Run<R> {
     }
 }
 
-/// Reads the words of the frames from one on, as far as it is known which they are, that the walk goes on after the frame, and
-/// which words its caller asks for. Returns how many frames those are, and the words that were read for the one after them.
-#[inline(always)]
+/// Why the words of no further frame were read for a run.
+enum Stop {
+    /// There are as many frames as there may be, or it is not known which words the next one asks for.
+    Unread,
+    /// It is not known where these words of the next frame lead, or one of them can't be read.
+    Read([u64; 2], Result<[u64; 2], Option<u64>>),
+}
+
+/// A frame, by the layout of its words and by its pointers.
+struct Laid<'l> {
+    layout: &'l Layout,
+    pointers: Pointers,
+}
+
+/// What reads the words of a run: its frames are those of a list of modules, and have the mask of some registers.
+struct Reader<'a, R> {
+    layouts: &'a Layouts,
+    modules: u32,
+    regs: &'a R,
+    run_words: &'a mut RunWords,
+    /// How many windows of words there are.
+    windows: usize,
+}
+
+impl<'a, R: FrameWords> Reader<'a, R> {
+    /// Reads the words of the frames from one on, as far as it is known which they are, that the walk goes on after the frame,
+    /// and which words its caller asks for. Returns how many frames those are, and why they are no more.
+    #[inline(always)]
+    fn read_run(
+        mut self,
+        from: FrameAddress,
+        limit: usize,
+        read_stack: &mut impl FnMut(u64) -> Result<u64, ()>,
+    ) -> (usize, Stop) {
+        let FrameAddress::ReturnAddress(address) = from else { return (0, Stop::Unread) };
+        let Some(layout) = self.layouts.find(address.get(), self.modules) else { return (0, Stop::Unread) };
+        let mut frame = Laid { layout, pointers: self.regs.pointers() };
+        let mut count = 0;
+        let stop = loop {
+            if count == limit {
+                break Stop::Unread;
+            }
+            let Some(place) = frame.layout.place(frame.pointers) else { break Stop::Unread };
+            let read = if frame.layout.is_record() {
+                self.read_frame::<true>(frame, place, read_stack)
+            } else {
+                self.read_frame::<false>(frame, place, read_stack)
+            };
+            match read {
+                Ok(caller) => frame = caller,
+                Err(stop) => break stop,
+            }
+            count += 1;
+        };
+        self.run_words.set_count(self.windows);
+        (count, stop)
+    }
+
+    /// Reads the words of a frame, and adds them to those of the run where its caller is known: returns that.
+    #[inline(always)]
+    fn read_frame<const IS_RECORD: bool>(
+        &mut self,
+        Laid { layout, pointers }: Laid<'a>,
+        Place { asked, end }: Place,
+        read_stack: &mut impl FnMut(u64) -> Result<u64, ()>,
+    ) -> Result<Laid<'a>, Stop> {
+        let is_one = !IS_RECORD && asked[0] == asked[1];
+        let words = read_asked(asked, is_one, read_stack).map_err(|read| Stop::Read(asked, Err(read)))?;
+        let windows = if IS_RECORD {
+            self.run_words.put_pair(self.windows, R::upwards(asked)[0], R::upwards(words))
+        } else {
+            self.run_words.put(self.windows, asked, words)
+        };
+        let frame =
+            if IS_RECORD { Some(R::upwards(words)[0]) } else { layout.caller_frame_pointer(pointers.frame, words) };
+        // a frame pointer that is kept does not end the walk
+        let leads_on =
+            |frame: &u64| !IS_RECORD && !layout.restores_frame_pointer() || R::leads_on(pointers.frame, *frame);
+        // (of the return address 0, which ends a walk, nothing is known)
+        let caller = self.layouts.find(self.regs.return_address(words), self.modules);
+        match (frame.filter(leads_on), caller) {
+            (Some(frame), Some(layout)) => {
+                self.windows = windows;
+                Ok(Laid { layout, pointers: Pointers { stack: end, frame } })
+            }
+            _ => Err(Stop::Read(asked, Ok(words))),
+        }
+    }
+}
+
+/// The same by a call, whose parts are registers of the processor.
+#[inline(never)]
 fn read_run<R: FrameWords>(
     layouts: &Layouts,
     from: Frame,
@@ -289,48 +384,9 @@ fn read_run<R: FrameWords>(
     limit: usize,
     run_words: &mut RunWords,
     read_stack: &mut impl FnMut(u64) -> Result<u64, ()>,
-) -> (usize, Option<(Known, raw::Ahead)>) {
-    run_words.clear();
-    let FrameAddress::ReturnAddress(address) = from.address else { return (0, None) };
-    let Some(mut layout) = layouts.find(address.get(), from.modules) else { return (0, None) };
-    let mut pointers = regs.pointers();
-    for count in 0..limit {
-        let told = layout.words(pointers);
-        if told.count == 0 {
-            return (count, None);
-        }
-        let read = match read_told(&told, read_stack) {
-            Ok(read) => read,
-            Err(read) => return (count, Some((Known::up_to(&told, read), told))),
-        };
-        let caller = caller_of(layouts, layout, from.modules, regs, pointers, read);
-        let Some((caller_layout, caller_pointers)) = caller else {
-            return (count, Some((Known::of(&told, read[0], read[1]), told)));
-        };
-        run_words.push(&told, read);
-        (layout, pointers) = (caller_layout, caller_pointers);
-    }
-    (limit, None)
-}
-
-/// The layout and the pointers of a frame's caller, by the first and the last word of the frame, where both are known and the
-/// walk goes on there.
-#[inline(always)]
-fn caller_of<'l, R: FrameWords>(
-    layouts: &'l Layouts,
-    layout: &Layout,
-    modules: u32,
-    regs: &R,
-    pointers: Pointers,
-    read: [u64; 2],
-) -> Option<(&'l Layout, Pointers)> {
-    // (of the return address 0, which ends a walk, nothing is known)
-    let address = regs.return_address(read);
-    let caller = layout.caller(pointers, read)?;
-    if layout.restores_frame_pointer() && !R::leads_on(pointers.frame, caller.frame) {
-        return None;
-    }
-    Some((layouts.find(address, modules)?, caller))
+) -> (usize, Stop) {
+    let reader = Reader { layouts, modules: from.modules, regs, run_words, windows: 0 };
+    reader.read_run(from.address, limit, read_stack)
 }
 
 /// Steps for an iterator by a call that also tells the words of the caller. What the cache counts beside the one lookup that
@@ -366,8 +422,8 @@ fn next_told<R: FrameWords>(
                 kept.tries.recounted.add(raw::LOOKUP_HIT);
             }
             if is_by_rule {
-                let layout = asked.layout(pointers, regs.pointers());
-                kept.layouts.note(frame.address.address(), frame.modules, layout);
+                let layout = asked.layout::<R>(pointers, regs.pointers());
+                kept.layouts.note::<R>(frame.address.address(), frame.modules, layout);
             }
             Ok((Some(told.return_address), Ahead(told.ahead)))
         }

@@ -6,6 +6,7 @@
 //! another distance shows from which of the two they are counted. The words lead on to the caller's stack pointer and frame
 //! pointer, and so to its own words. A layout only says what is read before a step: which frame the words lead to is the
 //! archive's to say, and a word that it asks for besides is read for it.
+use crate::unwinder::FrameWords;
 use crate::words::Known;
 use crate::{ModuleListError, raw};
 
@@ -31,8 +32,8 @@ enum Restored {
     Kept,
     /// It is the first word.
     First,
-    /// It is the second word.
-    Second,
+    /// It is the last word.
+    Last,
 }
 
 /// The stack pointer and the frame pointer of a frame.
@@ -40,6 +41,15 @@ enum Restored {
 pub struct Pointers {
     pub stack: u64,
     pub frame: u64,
+}
+
+/// What a step is known to do before it is made.
+#[derive(Clone, Copy)]
+pub struct Place {
+    /// The first and the last word that it asks for (AVMAs), the same one where that is the only one.
+    pub asked: [u64; 2],
+    /// The caller's stack pointer (AVMA).
+    pub end: u64,
 }
 
 /// How far from its base a layout may have a word, or the caller's stack pointer, in bytes. Offsets in rules are below 2^20.
@@ -51,6 +61,8 @@ pub(crate) struct Layout {
     base: Base,
     count: u8,
     frame_pointer: Restored,
+    /// Whether the words are a frame record, which lie side by side: the caller's frame pointer below the return address.
+    is_record: bool,
     first: i32,
     second: i32,
     /// The offset of the caller's stack pointer.
@@ -64,44 +76,46 @@ impl Layout {
         base: Base::Either,
         count: 0,
         frame_pointer: Restored::Unknown,
+        is_record: false,
         first: 0,
         second: 0,
         end: 0,
         distance: 0,
     };
 
-    /// The words that the step with these registers asks for, or none where it may be refused, or end the walk, without
-    /// asking for them.
+    /// The words that the step of a frame with these pointers asks for, or `None` where it may be refused, or end the walk,
+    /// without asking for them.
     #[inline(always)]
-    pub fn words(&self, of: Pointers) -> raw::Ahead {
-        let (sp, fp) = (of.stack, of.frame);
-        let base = self.base_at(of);
+    pub fn place(&self, of: Pointers) -> Option<Place> {
+        let base = match self.base {
+            Base::Either if of.frame.wrapping_sub(of.stack) != self.distance as u64 => return None,
+            Base::Either | Base::StackPointer => of.stack,
+            Base::FramePointer => of.frame,
+        };
         let at = |offset: i32| base.wrapping_add(offset as u64);
         // no sum wraps
         let is_inside = base.wrapping_sub(FARTHEST) < u64::MAX - 2 * FARTHEST;
-        let is_either = self.base == Base::Either && fp.wrapping_sub(sp) != self.distance as u64;
-        if !is_inside || is_either || at(self.end) <= sp {
-            return raw::Ahead::default();
+        if !is_inside || at(self.end) <= of.stack {
+            return None;
         }
-        raw::Ahead { first: at(self.first), second: at(self.second), count: self.count.into(), lookup: raw::NO_LOOKUP }
+        Some(Place { asked: [at(self.first), at(self.second)], end: at(self.end) })
     }
 
+    /// Whether the words are a frame record.
     #[inline(always)]
-    fn base_at(&self, of: Pointers) -> u64 {
-        let is_by_frame_pointer = self.base == Base::FramePointer;
-        if is_by_frame_pointer { of.frame } else { of.stack }
+    pub fn is_record(&self) -> bool {
+        self.is_record
     }
 
-    /// The caller's pointers, by the first and the last word that the step asks for.
+    /// The caller's frame pointer, by that of the frame and by the first and the last word that the step asks for.
     #[inline(always)]
-    pub fn caller(&self, of: Pointers, [first, second]: [u64; 2]) -> Option<Pointers> {
-        let frame = match self.frame_pointer {
-            Restored::Unknown => return None,
-            Restored::Kept => of.frame,
-            Restored::First => first,
-            Restored::Second => second,
-        };
-        Some(Pointers { stack: self.base_at(of).wrapping_add(self.end as u64), frame })
+    pub fn caller_frame_pointer(&self, frame_pointer: u64, [first, last]: [u64; 2]) -> Option<u64> {
+        match self.frame_pointer {
+            Restored::Unknown => None,
+            Restored::Kept => Some(frame_pointer),
+            Restored::First => Some(first),
+            Restored::Last => Some(last),
+        }
     }
 
     /// Whether the caller's frame pointer is one of the words.
@@ -110,8 +124,16 @@ impl Layout {
         self.frame_pointer != Restored::Kept
     }
 
+    /// The same, with whether it is that of a frame record.
+    fn completed<R: FrameWords>(self) -> Layout {
+        let [low, high] = R::upwards([self.first, self.second]);
+        let [in_low, _] = R::upwards([Restored::First, Restored::Last]);
+        let is_record = self.count == 2 && high.wrapping_sub(low) == 8 && self.frame_pointer == in_low;
+        Layout { is_record, ..self }
+    }
+
     /// What this layout and that of a later step tell together, if they agree.
-    fn with(&self, later: &Layout) -> Option<Layout> {
+    fn with<R: FrameWords>(&self, later: &Layout) -> Option<Layout> {
         if self.count != later.count {
             return None;
         }
@@ -124,7 +146,7 @@ impl Layout {
             Base::Either => earlier.by_frame_pointer()?,
         };
         let later = if told.base == Base::FramePointer { later.by_frame_pointer()? } else { *later };
-        (told.offsets() == later.offsets()).then_some(told)
+        (told.offsets() == later.offsets()).then_some(told.completed::<R>())
     }
 
     fn offsets(&self) -> [i32; 3] {
@@ -179,7 +201,7 @@ impl Asked {
     }
 
     /// The layout of the words, by the pointers (AVMAs) of the step's frame and of its caller, if there are one or two.
-    pub fn layout(&self, of: Pointers, caller: Pointers) -> Option<Layout> {
+    pub fn layout<R: FrameWords>(&self, of: Pointers, caller: Pointers) -> Option<Layout> {
         let [first, second] = match self.count {
             1 => [self.addresses[0]; 2],
             2 => self.addresses,
@@ -195,7 +217,9 @@ impl Asked {
         let by_either = offset(of.frame, FARTHEST / 2).map(|distance| (Base::Either, distance));
         let (base, distance) = by_either.unwrap_or((Base::StackPointer, 0));
         let frame_pointer = self.restored(of.frame, caller.frame);
-        Some(Layout { base, count: self.count as u8, frame_pointer, first, second, end, distance })
+        let layout =
+            Layout { base, count: self.count as u8, frame_pointer, first, second, end, distance, ..Layout::NONE };
+        Some(layout.completed::<R>())
     }
 
     /// Where the caller's frame pointer comes from, if only one place has it.
@@ -205,7 +229,7 @@ impl Asked {
         match (is_from(frame_pointer), is_word(0), is_word(1)) {
             (true, false, false) => Restored::Kept,
             (false, true, false) => Restored::First,
-            (false, false, true) => Restored::Second,
+            (false, false, true) => Restored::Last,
             _ => Restored::Unknown,
         }
     }
@@ -254,12 +278,12 @@ impl Layouts {
     }
 
     /// Notes what a step from a return address (AVMA) has asked for by a rule of the cache. The list 0 of modules is none.
-    pub fn note(&mut self, address: u64, modules: u32, layout: Option<Layout>) {
+    pub fn note<R: FrameWords>(&mut self, address: u64, modules: u32, layout: Option<Layout>) {
         let Some(layout) = layout else { return };
         if modules == 0 {
             return;
         }
-        let layout = self.find(address, modules).and_then(|old| old.with(&layout)).unwrap_or(layout);
+        let layout = self.find(address, modules).and_then(|old| old.with::<R>(&layout)).unwrap_or(layout);
         let [one, other] = &mut self.0[Self::set(address)];
         if !one.is_of(address, modules) {
             *other = *one;

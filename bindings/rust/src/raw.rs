@@ -108,6 +108,23 @@ pub struct Ahead {
     pub lookup: i32,
 }
 
+impl Ahead {
+    /// The first and the last word that are told, the same one where that is the only one, if there is one.
+    pub fn asked(&self) -> Option<[u64; 2]> {
+        match self.count {
+            0 => None,
+            1 => Some([self.first; 2]),
+            _ => Some([self.first, self.second]),
+        }
+    }
+
+    /// Tells the first and the last word, the same one where that is the only one, by no lookup.
+    pub fn of([first, last]: [u64; 2]) -> Self {
+        let (second, count) = if first == last { (0, 1) } else { (last, 2) };
+        Ahead { first, second, count, lookup: NO_LOOKUP }
+    }
+}
+
 #[repr(C)]
 #[derive(Default)]
 pub struct Next {

@@ -217,6 +217,9 @@ pub trait FrameWords: Copy {
     /// Returns whether a step that restores the frame pointer can't be refused, nor end the walk, for what it was and becomes.
     fn leads_on(frame_pointer: u64, caller_frame_pointer: u64) -> bool;
 
+    /// Returns what is of the words of a frame record, in the order in which they are asked for, in the order of their addresses.
+    fn upwards<T>(asked: [T; 2]) -> [T; 2];
+
     /// Returns the return address (AVMA) that is read by a rule which asks for these words first and last.
     fn return_address(&self, words: [u64; 2]) -> u64;
 

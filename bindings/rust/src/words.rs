@@ -75,36 +75,30 @@ impl Known {
     pub const NONE: Known = Known { words: [0; 2], windows: [(0, 0); 2], count: 0, ends: None };
 
     /// Reads the words that are told, the second one only where the first one can be read.
-    #[inline(always)]
     pub fn read(ahead: &raw::Ahead, read_stack: &mut impl FnMut(u64) -> Result<u64, ()>) -> Self {
-        match read_told(ahead, read_stack) {
-            Ok([one, other]) => Known::of(ahead, one, other),
-            Err(read) => Known::up_to(ahead, read),
+        match ahead.asked() {
+            Some(asked) => Known::of(asked, read_asked(asked, asked[0] == asked[1], read_stack)),
+            None => Known::NONE,
         }
     }
 
-    /// The words that are told, where each could be read.
-    pub fn of(ahead: &raw::Ahead, one: u64, other: u64) -> Self {
-        let raw::Ahead { first, second, .. } = *ahead;
-        let ends = Some([one, other]);
-        if ahead.count == 1 {
-            Known { words: [one, 0], windows: [(first, 1), (0, 0)], count: 1, ends }
-        } else if second.wrapping_sub(first) == 8 && first < second {
-            Known { words: [one, other], windows: [(first, 2), (0, 0)], count: 1, ends }
-        } else if first.wrapping_sub(second) == 8 && second < first {
-            Known { words: [other, one], windows: [(second, 2), (0, 0)], count: 1, ends }
-        } else {
-            Known { words: [one, other], windows: [(first, 1), (second, 1)], count: 2, ends }
-        }
-    }
-
-    /// The words that are told up to one that can't be read, the first one or the second: what was read before it.
-    pub fn up_to(ahead: &raw::Ahead, read: Option<u64>) -> Self {
-        let raw::Ahead { first, second, .. } = *ahead;
+    /// What was read of the first and the last word that are asked for (AVMAs): of one that can't be read, what was read before.
+    pub fn of([first, last]: [u64; 2], read: Result<[u64; 2], Option<u64>>) -> Self {
         match read {
-            _ if ahead.count == 0 => Known::NONE,
-            None => Known { words: [0; 2], windows: [(first, 0), (0, 0)], count: 1, ends: None },
-            Some(one) => Known { words: [one, 0], windows: [(first, 1), (second, 0)], count: 2, ends: None },
+            Ok([one, other]) => {
+                let (words, windows, count) = if first == last {
+                    ([one, 0], [(first, 1), (0, 0)], 1)
+                } else if last.wrapping_sub(first) == 8 && first < last {
+                    ([one, other], [(first, 2), (0, 0)], 1)
+                } else if first.wrapping_sub(last) == 8 && last < first {
+                    ([other, one], [(last, 2), (0, 0)], 1)
+                } else {
+                    ([one, other], [(first, 1), (last, 1)], 2)
+                };
+                Known { words, windows, count, ends: Some([one, other]) }
+            }
+            Err(None) => Known { words: [0; 2], windows: [(first, 0), (0, 0)], count: 1, ends: None },
+            Err(Some(one)) => Known { words: [one, 0], windows: [(first, 1), (last, 0)], count: 2, ends: None },
         }
     }
 
@@ -141,20 +135,19 @@ impl Known {
     }
 }
 
-/// Reads the words that are told, one or two: the first and the last one, or what was read before one that can't be read.
+/// Reads the first and the last word that a step asks for (AVMAs), the same one where that is the only one; or returns what was
+/// read before one that can't be read.
 #[inline(always)]
-pub(crate) fn read_told(
-    told: &raw::Ahead,
+pub(crate) fn read_asked(
+    [first, last]: [u64; 2],
+    is_one: bool,
     read_stack: &mut impl FnMut(u64) -> Result<u64, ()>,
 ) -> Result<[u64; 2], Option<u64>> {
-    if told.count == 0 {
-        return Err(None);
-    }
-    let one = read_stack(told.first).map_err(|()| None)?;
-    if told.count == 1 {
+    let one = read_stack(first).map_err(|()| None)?;
+    if is_one {
         return Ok([one, one]);
     }
-    let other = read_stack(told.second).map_err(|()| Some(one))?;
+    let other = read_stack(last).map_err(|()| Some(one))?;
     Ok([one, other])
 }
 
@@ -237,36 +230,43 @@ impl RunWords {
         RunWords { windows: [none; Self::MOST], words: [[0; 2]; Self::MOST], count: 0 }
     }
 
-    pub fn clear(&mut self) {
-        self.count = 0;
+    /// Sets how many of the windows that were put are lent.
+    pub fn set_count(&mut self, count: usize) {
+        self.count = count;
     }
 
-    /// Adds the words of a frame, by what was told of them and read. There must be room.
+    /// Puts the first and the last word that a frame asks for, by their addresses (AVMAs), into windows from this number on.
+    /// Returns the number of the next window. There must be room.
     #[inline(always)]
-    pub fn push(&mut self, told: &raw::Ahead, [one, other]: [u64; 2]) {
-        let raw::Ahead { first, second, count, .. } = *told;
-        if count == 1 {
-            self.add(first, [one, 0], 1);
-        } else if second.wrapping_sub(first) == 8 {
-            self.add(first, [one, other], 2);
-        } else if first.wrapping_sub(second) == 8 {
-            self.add(second, [other, one], 2);
+    pub fn put(&mut self, at: usize, [first, last]: [u64; 2], [one, other]: [u64; 2]) -> usize {
+        if last.wrapping_sub(first) == 8 {
+            self.put_pair(at, first, [one, other])
+        } else if first.wrapping_sub(last) == 8 {
+            self.put_pair(at, last, [other, one])
+        } else if first == last {
+            self.put_window(at, first, [one, 0], 1)
         } else {
-            let [low, high] =
-                if second < first { [(second, other), (first, one)] } else { [(first, one), (second, other)] };
-            self.add(low.0, [low.1, 0], 1);
-            self.add(high.0, [high.1, 0], 1);
+            let [low, high] = if last < first { [(last, other), (first, one)] } else { [(first, one), (last, other)] };
+            let at = self.put_window(at, low.0, [low.1, 0], 1);
+            self.put_window(at, high.0, [high.1, 0], 1)
         }
     }
 
+    /// Puts two words that lie side by side from an address (AVMA) upwards.
     #[inline(always)]
-    fn add(&mut self, base: u64, words: [u64; 2], word_count: usize) {
-        self.words[self.count] = words;
-        self.windows[self.count] = raw::Window { base, words: std::ptr::null(), word_count };
-        self.count += 1;
+    pub fn put_pair(&mut self, at: usize, base: u64, words: [u64; 2]) -> usize {
+        self.put_window(at, base, words, 2)
     }
 
-    /// The windows, which lend the words until more are added.
+    #[inline(always)]
+    fn put_window(&mut self, at: usize, base: u64, words: [u64; 2], word_count: usize) -> usize {
+        self.words[at] = words;
+        let window = &mut self.windows[at];
+        (window.base, window.word_count) = (base, word_count);
+        at + 1
+    }
+
+    /// The windows, which lend the words until others are put.
     pub fn windows(&mut self) -> &[raw::Window] {
         for (window, words) in self.windows[..self.count].iter_mut().zip(&self.words) {
             window.words = words.as_ptr();

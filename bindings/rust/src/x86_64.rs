@@ -88,6 +88,12 @@ impl FrameWords for UnwindRegsX86_64 {
         true
     }
 
+    #[inline(always)]
+    fn upwards<T>(asked: [T; 2]) -> [T; 2] {
+        asked
+    }
+
+    #[inline(always)]
     /// Each rule reads it last.
     fn return_address(&self, words: [u64; 2]) -> u64 {
         words[1]
