@@ -317,34 +317,42 @@ fn pops_at(start: u64) -> Module<Vec<u8>> {
     Module::new("m".into(), start..start + 0x100, start, Pe { pdata: Some(pdata), xdata: Some(xdata) })
 }
 
-/// A module of 256 bytes with a function whose CFA is the word 8 bytes above rsp, which no rule says.
-fn expression_at(start: u64) -> Module<Vec<u8>> {
-    // version 1, factors 1 and -8, the return address in column 16 and at CFA - 8
-    let cie = [&[0xff; 4], &[1, 0, 1, 0x78, 16, 0x0c, 7, 8, 0x90, 1, 0, 0][..]].concat();
-    // DW_CFA_def_cfa_expression of DW_OP_breg7 8, DW_OP_deref
+/// A module of 256 bytes with a function by `.debug_frame`: the CIE's return address column, its instructions, and the FDE's.
+fn by_call_frames(start: u64, column: u8, initial: [u8; 7], code: &[u8]) -> Module<Vec<u8>> {
+    // version 1, factors 1 and -8
+    let cie = [&[0xff; 4], &[1, 0, 1, 0x78, column][..], &initial].concat();
     let range = [0x1000u64, 0x100].iter().flat_map(|it| it.to_le_bytes()).collect::<Vec<u8>>();
-    let fde = [&[0; 4], &range[..], &[0x0f, 3, 0x77, 8, 0x06, 0, 0, 0]].concat();
+    let mut fde = [&[0; 4], &range[..], code].concat();
+    fde.resize(28, 0);
     let entries = [cie, fde].map(|entry| [&(entry.len() as u32).to_le_bytes(), &entry[..]].concat());
     let info =
         ExplicitModuleSectionInfo { base_svma: 0x1000, debug_frame: Some(entries.concat()), ..Default::default() };
     Module::new("m".into(), start..start + 0x100, start, info)
 }
 
+/// For x86_64: the CFA is 8 bytes above rsp, and the return address at CFA - 8.
+const X86_64_CALL: [u8; 7] = [0x0c, 7, 8, 0x90, 1, 0, 0];
+
+/// A module of 256 bytes with a function whose CFA is the word 8 bytes above rsp, which no rule says.
+fn expression_at(start: u64) -> Module<Vec<u8>> {
+    // DW_CFA_def_cfa_expression of DW_OP_breg7 8, DW_OP_deref
+    by_call_frames(start, 16, X86_64_CALL, &[0x0f, 3, 0x77, 8, 0x06])
+}
+
+/// A module of 256 bytes with a function for x86_64 that has saved rbp at the CFA, above its return address.
+fn saves_rbp_above_at(start: u64) -> Module<Vec<u8>> {
+    // DW_CFA_offset of rbp
+    by_call_frames(start, 16, X86_64_CALL, &[0x86, 0])
+}
+
 /// A module of 256 bytes with a function for aarch64, whose CFA is this many bytes above sp. In its stack are lr, so many words
 /// below the CFA, and fp, if a place is given for it.
 fn saves_at(start: u64, size: u64, lr: u64, fp: Option<u64>) -> Module<Vec<u8>> {
-    // version 1, factors 1 and -8, the return address in column 30, and sp as the CFA
-    let cie = [&[0xff; 4], &[1, 0, 1, 0x78, 30, 0x0c, 31, 0, 0, 0, 0, 0][..]].concat();
-    let range = [0x1000u64, 0x100].iter().flat_map(|it| it.to_le_bytes()).collect::<Vec<u8>>();
     // DW_CFA_def_cfa_offset, DW_CFA_offset of x30 and x29
     let mut code = vec![0x0e, size as u8, 0x9e, lr as u8];
     code.extend(fp.iter().flat_map(|&fp| [0x9d, fp as u8]));
-    code.resize(8, 0);
-    let fde = [&[0; 4], &range[..], &code].concat();
-    let entries = [cie, fde].map(|entry| [&(entry.len() as u32).to_le_bytes(), &entry[..]].concat());
-    let info =
-        ExplicitModuleSectionInfo { base_svma: 0x1000, debug_frame: Some(entries.concat()), ..Default::default() };
-    Module::new("m".into(), start..start + 0x100, start, info)
+    // sp is the CFA
+    by_call_frames(start, 30, [0x0c, 31, 0, 0, 0, 0, 0], &code)
 }
 
 /// Numbers that look random, and are the same each time.
@@ -489,12 +497,14 @@ fn iterates_as_single_steps_do() {
     let mut numbers = Numbers(1);
     let (mut unwinder, mut cache, mut others) =
         (UnwinderX86_64::<Vec<u8>>::new(), CacheX86_64::new(), CacheX86_64::new());
+    unwinder.add_module(pops_rbx_at(0x10800));
+    unwinder.add_module(saves_rbp_above_at(0x10900));
     unwinder.add_module(pops_at(0x10a00));
     unwinder.add_module(expression_at(0x10b00));
     let mut longest = 0;
     for walk in 0..20_000 {
         if walk % 1000 == 0 {
-            for at in 0..10 {
+            for at in 0..8 {
                 unwinder.remove_module(0x10000 + 0x100 * at);
                 let mode = 0x0100_0000 * (1 + numbers.below(2) as u32);
                 let (size, pops, order) = (numbers.below(4) + 7, numbers.below(7), numbers.below(6));
