@@ -84,8 +84,8 @@ impl FrameWords for UnwindRegsAarch64 {
         Pointers { stack: self.sp(), frame: self.fp() }
     }
 
-    #[inline]
     /// A rule by frame records ends at the frame pointer 0, and is refused where it does not rise.
+    #[inline]
     fn leads_on(frame_pointer: u64, caller_frame_pointer: u64) -> bool {
         frame_pointer < caller_frame_pointer
     }
@@ -95,8 +95,8 @@ impl FrameWords for UnwindRegsAarch64 {
         [last, first]
     }
 
-    #[inline(always)]
     /// Each rule reads it first.
+    #[inline(always)]
     fn return_address(&self, words: [u64; 2]) -> u64 {
         self.lr_mask().strip_ptr_auth(words[0])
     }

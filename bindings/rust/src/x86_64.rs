@@ -93,8 +93,8 @@ impl FrameWords for UnwindRegsX86_64 {
         asked
     }
 
-    #[inline(always)]
     /// Each rule reads it last.
+    #[inline(always)]
     fn return_address(&self, words: [u64; 2]) -> u64 {
         words[1]
     }
