@@ -3,8 +3,8 @@ use Rattle.std.proofs.Common.{◌≡◌, ℕ, zero, suc, ◌<◌, ◌+◌, List,
 use Rattle.std.proofs.lemmas.List.{drop_all}
 use Rattle.std.proofs.lemmas.Option.{unwrap_or-slice_get}
 use Rattle.std.specs.Prelude.{slice_get, unwrap_or}
-use Rattle.framehop_columns.specs.RegisterFile.{in_column, word_of}
-use Rattle.framehop_columns.specs.Caller.{HasColumns}
+use Rattle.framehop_callers.specs.RegisterFile.{in_column, word_of}
+use Rattle.framehop_callers.specs.Caller.{HasColumns}
 use Rattle.framehop_backtrace.specs.Columns.{columns_from, columns_by}
 
 in-unwrap : (o : Option (Option ℕ)) → in_column o ≡ unwrap_or o None

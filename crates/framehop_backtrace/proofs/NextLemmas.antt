@@ -2,9 +2,9 @@
 use Rattle.std.proofs.Common.{◌≡◌, ℕ, Bool, true, false, List, length, Option, Ok, refl, ap, sym, ◌∙◌}
 use Rattle.framehop_core.specs.Memory.{Memory}
 use Rattle.framehop_cfi.specs.Row.{Row}
-use Rattle.framehop_columns.specs.Caller.{HasColumns, caller_column, step_of}
-use Rattle.framehop_columns.specs.Rules.{Source}
-use Rattle.framehop_columns.specs.declared.convention.Convention.{Convention}
+use Rattle.framehop_callers.specs.Caller.{HasColumns, caller_column, step_of}
+use Rattle.framehop_callers.specs.Rules.{Source}
+use Rattle.framehop_callers.specs.declared.convention.Convention.{Convention}
 use Rattle.framehop_backtrace.proofs.ColumnsLemmas.{columns-are}
 use Rattle.framehop_backtrace.specs.Code.{Code, is_in_trampoline}
 use Rattle.framehop_backtrace.specs.Columns.{columns_by, returned_to}

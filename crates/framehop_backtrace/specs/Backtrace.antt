@@ -8,13 +8,13 @@ use Rattle.framehop_core.specs.declared.error.Error.TheVariants.{ReturnAddressIs
 use Rattle.framehop_cfi.specs.Row.{Row, rule_of}
 use Rattle.framehop_cfi.specs.declared.rule.RegisterRule.{RegisterRule}
 use Rattle.framehop_cfi.specs.declared.rule.RegisterRule.TheVariants as rule
-use Rattle.framehop_columns.specs.Caller.{caller_column, step_of}
-use Rattle.framehop_columns.specs.Convention.{stack_pointer_of, return_address_of}
-use Rattle.framehop_columns.specs.Rules.{Source}
-use Rattle.framehop_columns.specs.declared.caller.RowRefusal.{RowRefusal}
-use Rattle.framehop_columns.specs.declared.caller.RowRefusal.TheVariants as refusal
-use Rattle.framehop_runs.specs.Step.{Source as RunSource}
-use Rattle.framehop_runs.specs.declared.run.RunCaller.{RunCaller}
+use Rattle.framehop_callers.specs.Caller.{caller_column, step_of}
+use Rattle.framehop_callers.specs.Convention.{stack_pointer_of, return_address_of}
+use Rattle.framehop_callers.specs.Rules.{Source}
+use Rattle.framehop_callers.specs.declared.caller.RowRefusal.{RowRefusal}
+use Rattle.framehop_callers.specs.declared.caller.RowRefusal.TheVariants as refusal
+use Rattle.framehop_callers.specs.Step.{Source as RunSource}
+use Rattle.framehop_callers.specs.declared.run.RunCaller.{RunCaller}
 use Rattle.framehop_backtrace.specs.Code.{Code, code_at, is_in_trampoline, is_in_code, is_outside_code}
 use Rattle.framehop_backtrace.specs.Columns.{column, columns_by, returned_to}
 use Rattle.framehop_backtrace.specs.Guess.{evidence_at, evidence_of, is_taken, prefers_frame_pointer}

@@ -1,8 +1,8 @@
 -- Whole register files, by a value for each column.
 use Rattle.std.specs.Prelude.{ℕ, zero, suc, ◌+◌, List, [], ◌∷◌, Option, Some, option_map}
-use Rattle.framehop_columns.specs.Convention.{program_counter_of, return_address_of}
-use Rattle.framehop_columns.specs.RegisterFile.{word_of, with_word}
-use Rattle.framehop_columns.specs.declared.convention.Convention.{Convention}
+use Rattle.framehop_callers.specs.Convention.{program_counter_of, return_address_of}
+use Rattle.framehop_callers.specs.RegisterFile.{word_of, with_word}
+use Rattle.framehop_callers.specs.declared.convention.Convention.{Convention}
 
 -- the values of so many columns from one on
 abbrev pub columns_from : (ℕ → Option ℕ) → ℕ → ℕ → List (Option ℕ)

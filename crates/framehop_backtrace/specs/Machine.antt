@@ -14,12 +14,12 @@ use Rattle.framehop_core.specs.Aarch64.Rules.{outcome as outcome_aarch64}
 use Rattle.framehop_core.specs.declared.aarch64.unwind_rule.UnwindRuleAarch64.TheVariants.{NoOp, UseFramePointer as UseFramePointerAarch64}
 use Rattle.framehop_cfi.specs.Aarch64.{X29, X30, SP, PC}
 use Rattle.framehop_cfi.specs.X86_64.{RBX, RBP, RSP, R12, R15, RA}
-use Rattle.framehop_columns.specs.RegisterFile.{unknown}
-use Rattle.framehop_columns.specs.declared.convention.Convention.{Convention}
-use Rattle.framehop_columns.specs.declared.convention.Convention.TheVariants.{X86_64, Aarch64}
-use Rattle.framehop_runs.specs.Run.{caller_by_runs}
-use Rattle.framehop_runs.specs.Step.{Source as RunSource}
-use Rattle.framehop_runs.specs.declared.run.RunCaller.{RunCaller}
+use Rattle.framehop_callers.specs.RegisterFile.{unknown}
+use Rattle.framehop_callers.specs.declared.convention.Convention.{Convention}
+use Rattle.framehop_callers.specs.declared.convention.Convention.TheVariants.{X86_64, Aarch64}
+use Rattle.framehop_callers.specs.Run.{caller_by_runs}
+use Rattle.framehop_callers.specs.Step.{Source as RunSource}
+use Rattle.framehop_callers.specs.declared.run.RunCaller.{RunCaller}
 use Rattle.framehop_backtrace.specs.Call.{is_after_call_x86_64, is_after_call_aarch64, call_target_x86_64, call_target_aarch64, has_set_x86_64, has_set_aarch64}
 use Rattle.framehop_backtrace.specs.Columns.{columns_by, column, with_column}
 use Rattle.framehop_backtrace.specs.Restored.{with_restored, with_completed}

@@ -2,10 +2,10 @@
 -- (System V ABI for AMD64, figure 3.4: rbx, rbp and r12 to r15 belong to the calling function.)
 use Rattle.std.specs.Prelude.{ℕ, Bool, ◌&&◌, is_some, if◌then◌else◌, List, Option, Some, None}
 use Rattle.framehop_cfi.specs.X86_64.{RBX, RBP, RSP, R12, R15, RA}
-use Rattle.framehop_columns.specs.Caller.{is_same}
-use Rattle.framehop_runs.specs.Run.{caller_by_runs}
-use Rattle.framehop_runs.specs.Step.{Source as RunSource}
-use Rattle.framehop_runs.specs.declared.run.RunCaller.{RunCaller}
+use Rattle.framehop_callers.specs.Caller.{is_same}
+use Rattle.framehop_callers.specs.Run.{caller_by_runs}
+use Rattle.framehop_callers.specs.Step.{Source as RunSource}
+use Rattle.framehop_callers.specs.declared.run.RunCaller.{RunCaller}
 use Rattle.framehop_backtrace.specs.Columns.{column, with_column}
 
 -- the first of two words that is known

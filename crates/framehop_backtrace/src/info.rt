@@ -10,7 +10,7 @@ use framehop::lookup::{Lookup, UnwindEntry};
 use framehop::unwinder::UnwinderInternal;
 use framehop::{AllocationPolicy, Module, Unwinding};
 use framehop_bytes::section::SectionBytes;
-use framehop_columns::memory::WordMemory;
+use framehop_callers::memory::WordMemory;
 use framehop_core::FrameAddress;
 use framehop_pe::pe::{PeSections, PeUnwinding};
 

@@ -1,7 +1,7 @@
 //! The caller of a frame.
 ghost use Rattle.std.specs.Prelude.{◌≡◌, ◌≢◌, ◌⊎◌, None, option_map, IfOk, IfErr, OnErr, Err, MatchBool, true, length};
 ghost use Rattle.framehop_cfi.specs.Row.{rule_of};
-ghost use Rattle.framehop_columns.specs.Convention.{return_address_of};
+ghost use Rattle.framehop_callers.specs.Convention.{return_address_of};
 ghost use Rattle.framehop_core.specs.CodeAddress.{FrameLocation, location_of, is_first_frame};
 ghost use Rattle.framehop_core.specs.Outcome.{HasDone};
 ghost use Rattle.framehop.specs.Modules.{UnwinderView};
@@ -24,8 +24,8 @@ use crate::step::step;
 use framehop_cfi::context::UnwindContext;
 use framehop_cfi::row::UnwindTableRow;
 use framehop_cfi::storage::UnwindContextStorage;
-use framehop_columns::caller::caller_by_row;
-use framehop_columns::register_file::RegisterFile;
+use framehop_callers::caller::caller_by_row;
+use framehop_callers::register_file::RegisterFile;
 use framehop_core::{Error, FrameAddress};
 use std::alloc::{AllocError, Global};
 

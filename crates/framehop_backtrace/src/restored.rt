@@ -1,15 +1,15 @@
 //! Registers of x86_64 that a function has restored before it returns.
 ghost use Rattle.std.specs.Prelude.{◌≡◌};
-ghost use Rattle.framehop_columns.specs.Caller.{is_same};
-ghost use Rattle.framehop_columns.specs.RegisterFile.{word_of, with_word};
+ghost use Rattle.framehop_callers.specs.Caller.{is_same};
+ghost use Rattle.framehop_callers.specs.RegisterFile.{word_of, with_word};
 ghost use Rattle.framehop_backtrace.specs.Columns.{column};
 ghost use Rattle.framehop_backtrace.specs.Restored.{known_first, knows_kept, comes_to, restored_by, restored_in, with_restored, completed_by, completed_in, with_completed};
 
 use framehop_cfi::rule::Register;
 use framehop_cfi::x86_64::{R12, R15, RA, RBP, RBX, RSP};
-use framehop_columns::register_file::RegisterFile;
-use framehop_runs::run::{RunCaller, caller_by_runs};
-use framehop_runs::step::RunMemory;
+use framehop_callers::register_file::RegisterFile;
+use framehop_callers::run::{RunCaller, caller_by_runs};
+use framehop_callers::step::RunMemory;
 
 const R13: Register = Register(13);
 

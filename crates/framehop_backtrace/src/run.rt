@@ -9,10 +9,10 @@ use crate::guess::{Evidence, evidence_at};
 use crate::machine::BacktraceUnwinder;
 use crate::memory::CodeMemory;
 use framehop_code::x86_64::action::Instruction;
-use framehop_columns::memory::WordMemory;
+use framehop_callers::memory::WordMemory;
 use framehop_core::FrameAddress;
-use framehop_runs::run::RunCaller;
-use framehop_runs::step::RunMemory;
+use framehop_callers::run::RunCaller;
+use framehop_callers::step::RunMemory;
 
 /// How many bytes an instruction of x86_64 has at most.
 const MOST_BYTES: u64 = 15;

@@ -7,7 +7,7 @@ ghost use Rattle.framehop.specs.Modules.{UnwinderView};
 ghost use Rattle.framehop.specs.Soundness.{AreApart};
 
 use framehop::Unwinder;
-use framehop_columns::memory::WordMemory;
+use framehop_callers::memory::WordMemory;
 use framehop_core::unwind_rule::UnwindRule;
 use framehop_core::{Error, FrameAddress};
 

@@ -10,13 +10,13 @@ use Rattle.framehop_cfi.specs.Row.{rule_of}
 use Rattle.framehop_cfi.specs.declared.rule.Register.{Register}
 use Rattle.framehop_cfi.specs.declared.rule.RegisterRule.{RegisterRule}
 use Rattle.framehop_cfi.specs.declared.rule.RegisterRule.TheVariants as rule
-use Rattle.framehop_columns.specs.Base.{base_of}
-use Rattle.framehop_columns.specs.Convention.{stack_pointer_of, return_address_of, keeps}
-use Rattle.framehop_columns.specs.RegisterFile.{word_of}
-use Rattle.framehop_columns.specs.Rules.{cfa_of, sum_of}
-use Rattle.framehop_columns.specs.declared.base.CfaBase.{CfaBase}
-use Rattle.framehop_columns.specs.declared.base.CfaBase.TheVariants as base
-use Rattle.framehop_columns.specs.declared.convention.Convention.{Convention}
+use Rattle.framehop_callers.specs.Base.{base_of}
+use Rattle.framehop_callers.specs.Convention.{stack_pointer_of, return_address_of, keeps}
+use Rattle.framehop_callers.specs.RegisterFile.{word_of}
+use Rattle.framehop_callers.specs.Rules.{cfa_of, sum_of}
+use Rattle.framehop_callers.specs.declared.base.CfaBase.{CfaBase}
+use Rattle.framehop_callers.specs.declared.base.CfaBase.TheVariants as base
+use Rattle.framehop_callers.specs.declared.convention.Convention.{Convention}
 use Rattle.framehop_backtrace.specs.Backtrace.{Backtrace, FrameView}
 use Rattle.framehop_backtrace.specs.Machine.{Machine}
 use Rattle.framehop_backtrace.specs.Rows.{Finding, by_row, uncovered, no_row}

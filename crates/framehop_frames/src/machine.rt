@@ -21,7 +21,7 @@ use framehop_backtrace::x86_64::all_columns;
 use framehop_backtrace::{BacktraceEnd, BacktraceUnwinder, FoundBy, RowFinding, Rows};
 use framehop_cfi::context::UnwindContext;
 use framehop_cfi::storage::UnwindContextStorage;
-use framehop_columns::register_file::RegisterFile;
+use framehop_callers::register_file::RegisterFile;
 use framehop_core::aarch64::ArchAarch64;
 use framehop_core::x86_64::ArchX86_64;
 use framehop_explain::Note;

@@ -8,7 +8,7 @@ use framehop_backtrace::CodeMemory;
 use framehop_backtrace::signal::is_trampoline;
 use framehop_bytes::bytes::back;
 use framehop_code::x86_64::action::Instruction;
-use framehop_columns::memory::WordMemory;
+use framehop_callers::memory::WordMemory;
 use framehop_processes::{Process, ProcessUnwinder};
 use framehop_symbols::code::{code_at, is_at_entry, is_mapped};
 use framehop_symbols::files::Files;

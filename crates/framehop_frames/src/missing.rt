@@ -3,9 +3,9 @@ ghost use Rattle.std.specs.Prelude.{◌≡◌, IfOk, None, map, option_map, opti
 ghost use Rattle.framehop_backtrace.specs.Backtrace.{frame_view, trace_view};
 ghost use Rattle.framehop_backtrace.specs.Rows.{finding_of, by_row};
 ghost use Rattle.framehop_backtrace.specs.declared.frame.BacktraceEnd.TheVariants.{CfaUnknown, ReturnAddressUnknown};
-ghost use Rattle.framehop_columns.specs.RegisterFile.{word_of};
-ghost use Rattle.framehop_columns.specs.Rules.{sum_of};
-ghost use Rattle.framehop_columns.specs.Convention.{stack_pointer_of};
+ghost use Rattle.framehop_callers.specs.RegisterFile.{word_of};
+ghost use Rattle.framehop_callers.specs.Rules.{sum_of};
+ghost use Rattle.framehop_callers.specs.Convention.{stack_pointer_of};
 ghost use Rattle.framehop_core.specs.CodeAddress.{location_of};
 ghost use Rattle.framehop_frames.specs.Missing.{unread_at, place_by, is_own, missing_after, missing_in_caller, missing_over, missing_in_last, missing_base, last_of, base_in, first_unknown, unread_in, missing_at, missing_word, end_for, end_of_walk};
 ghost use Rattle.framehop_frames.specs.Walker.{row_limits};
@@ -16,11 +16,11 @@ use framehop_cfi::context::UnwindContext;
 use framehop_cfi::row::UnwindTableRow;
 use framehop_cfi::rule::{Register, RegisterRule};
 use framehop_cfi::storage::StoreOnStack;
-use framehop_columns::base::{CfaBase, base_of};
-use framehop_columns::convention::Convention;
-use framehop_columns::memory::WordMemory;
-use framehop_columns::register_file::RegisterFile;
-use framehop_columns::rules::cfa_of;
+use framehop_callers::base::{CfaBase, base_of};
+use framehop_callers::convention::Convention;
+use framehop_callers::memory::WordMemory;
+use framehop_callers::register_file::RegisterFile;
+use framehop_callers::rules::cfa_of;
 use std::alloc::{AllocError, Global};
 
 /// Returns how a walk ended: at a word that can't be read (AVMA), where its frames tell that this is why no caller was

@@ -5,10 +5,10 @@ use crate::columns::frames::{bytes_of, memory_of};
 use framehop_cfi::rule::Register;
 use framehop_cfi::x86_64::{R15, RA, RBP, RBX, RSP};
 use framehop_code::x86_64::action::{Instruction, action_at};
-use framehop_columns::memory::WordMemory;
-use framehop_columns::register_file::RegisterFile;
-use framehop_runs::run::{RunCaller, caller_by_runs};
-use framehop_runs::step::RunMemory;
+use framehop_callers::memory::WordMemory;
+use framehop_callers::register_file::RegisterFile;
+use framehop_callers::run::{RunCaller, caller_by_runs};
+use framehop_callers::step::RunMemory;
 use std::alloc::{AllocError, Global};
 use std::test::Fail;
 

@@ -5,8 +5,8 @@
 use crate::columns::frames::{Known, NoCaller, Section, caller_of};
 use framehop_cfi::rule::Register;
 use framehop_cfi::storage::{StoreOnHeap, StoreOnStack};
-use framehop_columns::caller::{Caller, RowRefusal};
-use framehop_columns::convention::Convention;
+use framehop_callers::caller::{Caller, RowRefusal};
+use framehop_callers::convention::Convention;
 use std::test::Fail;
 
 /// `AES_encrypt` of libcrypto: the CFA is by rax, then at a word of the stack, then by rsi.

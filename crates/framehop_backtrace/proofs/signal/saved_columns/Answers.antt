@@ -1,6 +1,6 @@
 use Rattle.std.proofs.Common.{arith, ap, ◌∙◌, ◌+◌, ◌*◌, length, Some}
 use Rattle.framehop_bytes.specs.Bytes.{le8}
-use Rattle.framehop_columns.proofs.Columns.{one_more, keeps-length}
+use Rattle.framehop_callers.proofs.Columns.{one_more, keeps-length}
 use Rattle.framehop_backtrace.proofs.ColumnsLemmas.{columns-are}
 use Rattle.framehop_backtrace.proofs.signal.saved_columns.Goals as goal
 

@@ -1,6 +1,6 @@
 use Rattle.std.proofs.Common.{◌≡◌, ◌≤◌, ◌-◌, ◌+◌, ◌*◌, length, Some}
 use Rattle.framehop_bytes.specs.Bytes.{le8}
-use Rattle.framehop_columns.proofs.Columns.{HasBefore}
+use Rattle.framehop_callers.proofs.Columns.{HasBefore}
 use Rattle.framehop_backtrace.proofs.signal.saved_columns.Given as goal
 
 abbrev pub invariant-loop-at : goal.invariant-loop-at

@@ -1,0 +1,9 @@
+pub mod Columns
+pub mod Meaning
+pub mod Named
+pub mod ReturnAddress
+pub mod Values
+pub mod Runs
+pub mod StoreLemmas
+pub mod SoundLemmas
+pub mod CallerLemmas

@@ -1,0 +1,16 @@
+-- What the contracts of this crate cite: registers by column, expressions that read memory, and a row's meaning.
+pub mod Base
+pub mod Caller
+pub mod Convention
+pub mod Evaluation
+pub mod Load
+pub mod RegisterFile
+pub mod Rules
+-- What the contracts of this crate cite: what a run knows, how it goes on, and the caller that it comes to.
+pub mod Known
+pub mod Calls
+pub mod State
+pub mod Step
+pub mod Run
+pub mod Machine
+pub mod Sound

@@ -1,0 +1,55 @@
+//! The caller's registers by a row of call frame information (DWARF 5 section 6.4), over the whole register file of a
+//! frame: each column that the row or the calling convention describes, by any register that is known, with expressions
+//! that read memory.
+//!
+//! An unwind rule has a few registers only, and its expressions read no memory. This serves where the row needs more, as
+//! in hand-written assembly, and the frames of which all registers are known: the innermost one, and the one that a
+//! signal interrupted.
+//!
+//! # Decisions
+//!
+//! - The library's rules stay as they are: a row whose CFA is by another register, or by a word of
+//!   memory, has no rule, and the original follows the frame pointer there. This crate evaluates it
+//!   over registers that are known or not.
+//! - A register that the row doesn't name has its own value only where functions keep it, where gdb
+//!   keeps each. Sums are exact, and one that is no address is refused, where gdb lets it wrap.
+//! - `DW_OP_deref_size` reads the first bytes of a word of eight, so it has no value where that
+//!   can't be read.
+//! - A frame is the outermost one where its return address is undefined. Memory is lent as a value
+//!   (`WordMemory`): nothing is written, so contracts need no premise on it.
+//!
+//! The caller of a frame by running its code forward to the function's return.
+//!
+//! Where no unwind data covers an address, as in hand-written assembly, the code itself says who the caller is: the
+//! processor will return to it. A run goes on from an instruction over the registers and the memory that are known,
+//! without the process, until the function returns.
+//!
+//! # Decisions
+//!
+//! - Flags and vector registers are not followed. Of each conditional jump one way is taken, differently in two runs, which
+//!   go through a loop once more in different ways: what a loop changes is then known to neither or not alike. Where both
+//!   return, they must agree in return address and stack pointer. Where only one returns, a register that a loop changes
+//!   may be wrong.
+//! - A call of a function that unwind data covers is passed over, as one to an address that isn't known: it keeps the
+//!   registers that the calling convention says (System V ABI for AMD64, section 3.2.1). Other functions are often
+//!   helpers of one file with a convention of their own, and are entered. One may move its return address on the stack: a
+//!   return to an instruction after a call that was entered, and from which there was no return, is not the function's own.
+//! - A write to an address that isn't known goes to no word that the run needs: without this each
+//!   `mov [rdi], rax` could overwrite the return address.
+//! - A run is given up after 1,024 instructions, 128 writes, and 8 calls that are open or places of calls that were entered.
+//!   No call takes memory.
+#![tactic(auto)]
+
+pub mod base;
+pub mod caller;
+pub mod convention;
+pub mod evaluation;
+pub mod load;
+pub mod memory;
+pub mod register_file;
+pub mod rules;
+pub mod calls;
+pub mod known;
+pub mod run;
+pub mod state;
+pub mod step;

@@ -1,4 +1,0 @@
-pub mod Runs
-pub mod StoreLemmas
-pub mod SoundLemmas
-pub mod CallerLemmas
