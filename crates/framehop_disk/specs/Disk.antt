@@ -3,10 +3,10 @@ use Rattle.std.specs.Prelude.{ℕ, ◌==◌, Bool, true, false, not, ◌&&◌, �
 use Rattle.std.specs.Cmp.Lexicographic.{pointwise}
 use Rattle.std.specs.declared.io.ErrorKind.{ErrorKind}
 use Rattle.std.specs.declared.io.ErrorKind.TheVariants as kind
-use Rattle.framehop_symbols.specs.ObjectFiles.{build_id_by, contents_of}
-use Rattle.framehop_symbols.specs.MadeUpId.{is_made_up}
-use Rattle.framehop_symbols.specs.declared.read_refusal.ReadRefusal.{ReadRefusal}
-use Rattle.framehop_symbols.specs.declared.read_refusal.ReadRefusal.TheVariants.{NotThere, NotRegular, Refused}
+use Rattle.framehop_processes.specs.ObjectFiles.{build_id_by, contents_of}
+use Rattle.framehop_processes.specs.MadeUpId.{is_made_up}
+use Rattle.framehop_processes.specs.declared.read_refusal.ReadRefusal.{ReadRefusal}
+use Rattle.framehop_processes.specs.declared.read_refusal.ReadRefusal.TheVariants.{NotThere, NotRegular, Refused}
 use Rattle.framehop_disk.specs.Paths.{file_name, is_below, is_empty}
 use Rattle.framehop_disk.specs.declared.disk.ReadFile.{ReadFile}
 use Rattle.framehop_disk.specs.declared.disk.Worth.{Worth}

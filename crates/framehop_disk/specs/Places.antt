@@ -1,6 +1,6 @@
 -- In which places of a disk a file is looked for, in order.
 use Rattle.std.specs.Prelude.{ℕ, List, [], ◌∷◌, ◌++◌, map, flat_map, codes, Option, Some, None, if◌then◌else◌}
-use Rattle.framehop_symbols.specs.Files.{is_windows_path}
+use Rattle.framehop_processes.specs.Files.{is_windows_path}
 use Rattle.framehop_disk.specs.Paths.{SLASH, after_drive, build_id_path, windows_name}
 
 -- a place: the folder below which the file must lie, and its path

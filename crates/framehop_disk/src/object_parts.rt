@@ -12,7 +12,7 @@ use framehop_elf::section_header::{
     ENTRY_SIZE as SECTION_HEADER_SIZE, SectionHeader, read_section_headers,
 };
 use framehop_pe_file::header::is_pe;
-use framehop_symbols::object_file::build_id_of;
+use framehop_processes::object_file::build_id_of;
 use std::alloc::{AllocError, Global};
 use std::fs::File;
 use std::io;

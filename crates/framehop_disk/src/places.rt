@@ -5,7 +5,7 @@ ghost use Rattle.framehop_disk.specs.Paths.{build_id_path};
 ghost use Rattle.framehop_disk.specs.Places.{cache_folder, copies_in, debug_paths, in_root, linked_places, mapped_places};
 
 use crate::paths::{build_id_path, push_after_drive, windows_name};
-use framehop_symbols::files::is_windows_path;
+use framehop_processes::files::is_windows_path;
 use std::alloc::{AllocError, Global};
 use std::marker::Model;
 

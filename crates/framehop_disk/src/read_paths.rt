@@ -1,11 +1,11 @@
 //! Where files of a disk were read.
 ghost use Rattle.std.specs.Prelude.{◌≡◌, IfOk, find, reverse};
 ghost use Rattle.std.specs.Option.{option_copied};
-ghost use Rattle.framehop_symbols.specs.Files.{path_of};
+ghost use Rattle.framehop_processes.specs.Files.{path_of};
 ghost use Rattle.framehop_disk.specs.ReadPaths.{debug_file_of, file_of, is_named, is_read_by, last_of, path_bytes};
 
 use framehop_frames::json_files::FilePaths;
-use framehop_symbols::files::{Files, NamedFile};
+use framehop_processes::files::{Files, NamedFile};
 use std::alloc::{AllocError, Global};
 use std::cell::RefCell;
 

@@ -1,7 +1,7 @@
 -- What a call did, and why it failed, said of more; and files that are read as they are asked for.
 use Rattle.std.proofs.Common.{Bool, true, false, inl, inr, ⊎_elim, Result, Ok, Err, IfErr, OnOk}
-use Rattle.framehop_symbols.specs.Source.{SourceView}
-use Rattle.framehop_symbols.specs.declared.files.Files.{Files}
+use Rattle.framehop_processes.specs.Source.{SourceView}
+use Rattle.framehop_processes.specs.declared.files.Files.{Files}
 use Rattle.framehop_dumps.specs.Added.{more}
 use Rattle.framehop_dumps.specs.Dump.{DumpView}
 use Rattle.framehop_dump_stacks.specs.Ended.{drawn_in, MayEndWithFiles}

@@ -11,9 +11,9 @@ use Rattle.std.proofs.lemmas.Bool.{cases_Bool}
 use Rattle.std.proofs.lemmas.List.{take_more, map-append}
 use Rattle.std.proofs.lemmas.List.Folds.{find-append}
 use Rattle.framehop_elf.specs.declared.program_header.ProgramHeader.{ProgramHeader}
-use Rattle.framehop_symbols.specs.MappedBytes.{contents_in}
-use Rattle.framehop_symbols.specs.declared.files.NamedFile.{NamedFile}
-use Rattle.framehop_symbols.specs.declared.mapped_bytes.MappedBytes.{MappedBytes}
+use Rattle.framehop_processes.specs.MappedBytes.{contents_in}
+use Rattle.framehop_processes.specs.declared.files.NamedFile.{NamedFile}
+use Rattle.framehop_processes.specs.declared.mapped_bytes.MappedBytes.{MappedBytes}
 use Rattle.framehop_dumps.specs.Dump.{DumpView, MappedCodeView, mapped_code_view, is_of_path, head_among}
 use Rattle.framehop_dump_stacks.specs.FrameHeaders.{kept_for, first_header}
 use Rattle.framehop_elf.specs.Header.{file_header_of}

@@ -7,8 +7,8 @@ use Rattle.serde_json.specs.Data.{Data, object, no_members}
 use Rattle.serde_json.specs.View.{items_of}
 use Rattle.serde_json.specs.Written.{items_have_float}
 use Rattle.framehop_processes.specs.declared.mapping.Mapping.{Mapping}
-use Rattle.framehop_symbols.specs.declared.files.Files.{Files}
-use Rattle.framehop_symbols.specs.declared.files.NamedFile.{NamedFile}
+use Rattle.framehop_processes.specs.declared.files.Files.{Files}
+use Rattle.framehop_processes.specs.declared.files.NamedFile.{NamedFile}
 use Rattle.framehop_frames.proofs.FloatLemmas.{HasNone, neither, none-or-null, address-none, name-none, number-none, build-id-none, frames-none}
 use Rattle.framehop_frames.specs.JsonFiles.{path_in, debug_path_in}
 use Rattle.framehop_frames.specs.Stack.{StackView}

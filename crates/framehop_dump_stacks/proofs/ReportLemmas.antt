@@ -10,7 +10,7 @@ use Rattle.framehop.specs.Modules.{ModuleView}
 use Rattle.framehop_backtrace.specs.declared.frame.BacktraceEnd.{BacktraceEnd}
 use Rattle.framehop_backtrace.specs.declared.frame.FoundBy.{FoundBy}
 use Rattle.framehop_processes.specs.declared.mapping.Mapping.{Mapping}
-use Rattle.framehop_symbols.specs.declared.files.Files.{Files}
+use Rattle.framehop_processes.specs.declared.files.Files.{Files}
 use Rattle.framehop_frames.specs.Walker.{Walker}
 use Rattle.framehop_frames.specs.declared.machine.Start.{Start}
 use Rattle.framehop_dumps.specs.Dump.{RegistersView, ThreadView, DumpView, thread_view}

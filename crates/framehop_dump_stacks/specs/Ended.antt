@@ -2,8 +2,8 @@
 use Rattle.std.specs.Prelude.{◌≡◌, ◌⊎◌, ◌<◌, ◌+◌, ◌-◌, ◌^◌, ℕ, ⊤, Bool, true, false, List, [], ◌∷◌, Option, Some, None}
 use Rattle.framehop_processes.specs.Mappings.{changed_modules}
 use Rattle.framehop_processes.specs.declared.mapping.Mapping.{Mapping}
-use Rattle.framehop_symbols.specs.Source.{SourceView}
-use Rattle.framehop_symbols.specs.declared.files.Files.{Files}
+use Rattle.framehop_processes.specs.Source.{SourceView}
+use Rattle.framehop_processes.specs.declared.files.Files.{Files}
 use Rattle.framehop_dumps.specs.Dump.{MappedCodeView, DumpView}
 use Rattle.framehop_dumps.specs.Minidump.{LoadedView, AreModuleFiles, dump_with}
 use Rattle.framehop_dump_stacks.specs.Modules.{AreFilesFor, mapping_in, mapped_by}

@@ -3,8 +3,8 @@ use Rattle.std.specs.Prelude.{ℕ, List, codes, Option, option_map, option_to_li
 use Rattle.std.specs.List.{flat_map}
 use Rattle.serde_json.specs.Data.{Data, boolean, object, member, no_members}
 use Rattle.framehop_processes.specs.declared.mapping.Mapping.{Mapping}
-use Rattle.framehop_symbols.specs.declared.files.Files.{Files}
-use Rattle.framehop_symbols.specs.declared.files.NamedFile.{NamedFile}
+use Rattle.framehop_processes.specs.declared.files.Files.{Files}
+use Rattle.framehop_processes.specs.declared.files.NamedFile.{NamedFile}
 use Rattle.framehop_frames.specs.JsonFiles.{build_id_data, has_unwind_data, has_function_names, path_in, debug_path_in}
 use Rattle.framehop_frames.specs.JsonValues.{address_data, name_data, or_null}
 use Rattle.framehop_frames.specs.declared.json_files.FilePaths.{FilePaths}

@@ -7,7 +7,7 @@ use Rattle.json.specs.Print.{quoted}
 use Rattle.framehop_coredump.specs.declared.core_file.Machine.{Machine}
 use Rattle.framehop_coredump.specs.declared.core_file.Machine.TheVariants.{X86_64, Aarch64}
 use Rattle.framehop_processes.specs.declared.mapping.Mapping.{Mapping}
-use Rattle.framehop_symbols.specs.declared.files.Files.{Files}
+use Rattle.framehop_processes.specs.declared.files.Files.{Files}
 use Rattle.framehop_frames.specs.JsonValues.{number_data, name_data, or_null}
 use Rattle.framehop_frames.specs.declared.json_files.FilePaths.{FilePaths}
 use Rattle.framehop_dumps.specs.Dump.{DumpView, kind_name}

@@ -3,7 +3,7 @@ use Rattle.std.specs.Prelude.{ℕ, List, [], codes, Option, None, is_some}
 use Rattle.serde_json.specs.Data.{Data, boolean, string, array, object, member, no_members}
 use Rattle.serde_json.specs.View.{items_of}
 use Rattle.framehop_processes.specs.declared.mapping.Mapping.{Mapping}
-use Rattle.framehop_symbols.specs.declared.files.Files.{Files}
+use Rattle.framehop_processes.specs.declared.files.Files.{Files}
 use Rattle.framehop_frames.specs.JsonFrames.{frames_data}
 use Rattle.framehop_frames.specs.JsonValues.{number_data, address_data, name_data, or_null}
 use Rattle.framehop_frames.specs.Line.{ShownFrame, address_of_end, end_name}

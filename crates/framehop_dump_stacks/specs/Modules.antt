@@ -8,12 +8,12 @@ use Rattle.framehop.specs.ModuleData.{unwind_data_in}
 use Rattle.framehop.specs.Modules.{ModuleView}
 use Rattle.framehop_processes.specs.Mappings.{with_mapping}
 use Rattle.framehop_processes.specs.declared.mapping.Mapping.{Mapping}
-use Rattle.framehop_symbols.specs.Files.{number_in, object_in}
-use Rattle.framehop_symbols.specs.Files.{placed_at}
-use Rattle.framehop_symbols.specs.Source.{SourceView}
-use Rattle.framehop_symbols.specs.declared.object_file.ObjectFile.{ObjectFile}
-use Rattle.framehop_symbols.specs.declared.files.Files.{Files}
-use Rattle.framehop_symbols.specs.declared.files.NamedFile.{NamedFile}
+use Rattle.framehop_processes.specs.Files.{number_in, object_in}
+use Rattle.framehop_processes.specs.Files.{placed_at}
+use Rattle.framehop_processes.specs.Source.{SourceView}
+use Rattle.framehop_processes.specs.declared.object_file.ObjectFile.{ObjectFile}
+use Rattle.framehop_processes.specs.declared.files.Files.{Files}
+use Rattle.framehop_processes.specs.declared.files.NamedFile.{NamedFile}
 use Rattle.framehop_dumps.specs.Added.{AreLeftOut, AreReadSince, AreReadByRounds}
 use Rattle.framehop_dumps.specs.Dump.{MappedCodeView, DumpView, head_of}
 use Rattle.framehop_dumps.specs.Image.{sections_of, sections_in}

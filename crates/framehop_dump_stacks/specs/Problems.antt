@@ -7,16 +7,16 @@ use Rattle.framehop_elf.specs.ErrorText.{elf_error_text}
 use Rattle.framehop_memory.specs.declared.memory.MemoryRange.{MemoryRange}
 use Rattle.framehop_pe_file.specs.ErrorText.{pe_error_text}
 use Rattle.framehop_processes.specs.declared.mapping.Mapping.{Mapping}
-use Rattle.framehop_symbols.specs.Files.{number_in}
-use Rattle.framehop_symbols.specs.Found.{has_names}
+use Rattle.framehop_processes.specs.Files.{number_in}
+use Rattle.framehop_processes.specs.Found.{has_names}
 use Rattle.framehop.specs.Parts.{is_unwind_data}
-use Rattle.framehop_symbols.specs.FramesText.{IsFramesText}
-use Rattle.framehop_symbols.specs.ReadRefusal.{refusal_text}
-use Rattle.framehop_symbols.specs.declared.files.Files.{Files}
-use Rattle.framehop_symbols.specs.declared.files.NamedFile.{NamedFile}
-use Rattle.framehop_symbols.specs.declared.object_file.ObjectFile.{ObjectFile}
-use Rattle.framehop_symbols.specs.declared.object_file.FileProblem.{FileProblem}
-use Rattle.framehop_symbols.specs.declared.object_file.FileProblem.TheVariants.{NotRead, Elf, Pe, OtherBuildId}
+use Rattle.framehop_processes.specs.FramesText.{IsFramesText}
+use Rattle.framehop_processes.specs.ReadRefusal.{refusal_text}
+use Rattle.framehop_processes.specs.declared.files.Files.{Files}
+use Rattle.framehop_processes.specs.declared.files.NamedFile.{NamedFile}
+use Rattle.framehop_processes.specs.declared.object_file.ObjectFile.{ObjectFile}
+use Rattle.framehop_processes.specs.declared.object_file.FileProblem.{FileProblem}
+use Rattle.framehop_processes.specs.declared.object_file.FileProblem.TheVariants.{NotRead, Elf, Pe, OtherBuildId}
 use Rattle.framehop_frames.specs.Line.{plain}
 use Rattle.framehop_dumps.specs.Dump.{DumpView, head_of, kind_name}
 use Rattle.framehop_dumps.specs.Image.{sections_in}

@@ -1,6 +1,6 @@
 -- Reports of a dump: what comes before its threads, a text for each thread, and what comes after them.
 use Rattle.std.specs.Prelude.{ℕ, List, [], ◌∷◌, ◌++◌, Bool, true}
-use Rattle.framehop_symbols.specs.declared.files.Files.{Files}
+use Rattle.framehop_processes.specs.declared.files.Files.{Files}
 use Rattle.framehop_dumps.specs.Dump.{DumpView}
 use Rattle.framehop_dump_stacks.specs.Walked.{WalkedThread, AreThreadsOf}
 

@@ -7,7 +7,7 @@ use Rattle.framehop_frames.specs.Explained.{shown_with}
 use Rattle.framehop_frames.specs.Line.{plain}
 use Rattle.framehop_frames.specs.Numbered.{numbered_text}
 use Rattle.framehop_frames.specs.Stack.{StackView}
-use Rattle.framehop_symbols.specs.declared.files.Files.{Files}
+use Rattle.framehop_processes.specs.declared.files.Files.{Files}
 use Rattle.framehop_dumps.specs.Dump.{ThreadView, DumpView}
 use Rattle.framehop_dump_stacks.specs.Exception.{unnamed_exception, exception_text}
 use Rattle.framehop_dump_stacks.specs.Signal.{signal_text}

@@ -8,7 +8,7 @@ use Rattle.framehop.specs.Modules.{ModuleView}
 use Rattle.framehop_backtrace.specs.Code.{Code}
 use Rattle.framehop_memory.specs.Memory.{bytes_after}
 use Rattle.framehop_processes.specs.declared.mapping.Mapping.{Mapping}
-use Rattle.framehop_symbols.specs.declared.files.Files.{Files}
+use Rattle.framehop_processes.specs.declared.files.Files.{Files}
 use Rattle.framehop_frames.specs.Code.{code_of}
 use Rattle.framehop_frames.specs.Rows.{rows_in}
 use Rattle.framehop_frames.specs.Stack.{StackView, no_stack, stack_from}

@@ -8,7 +8,7 @@ use Rattle.framehop.specs.Modules.{ModuleView}
 use Rattle.framehop_backtrace.specs.declared.frame.BacktraceEnd.{BacktraceEnd}
 use Rattle.framehop_backtrace.specs.declared.frame.FoundBy.{FoundBy}
 use Rattle.framehop_processes.specs.declared.mapping.Mapping.{Mapping}
-use Rattle.framehop_symbols.specs.declared.files.Files.{Files}
+use Rattle.framehop_processes.specs.declared.files.Files.{Files}
 use Rattle.framehop_frames.specs.Notes.{NotedStack, noted_from, AreStackNotes}
 use Rattle.framehop_frames.specs.Rows.{rows_in}
 use Rattle.framehop_frames.specs.Stack.{StackView}

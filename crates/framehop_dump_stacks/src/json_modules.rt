@@ -9,7 +9,7 @@ use framehop_frames::json_files::{
 };
 use framehop_frames::json_values::{address_value, name_value};
 use framehop_processes::Mapping;
-use framehop_symbols::files::{Files, NamedFile};
+use framehop_processes::files::{Files, NamedFile};
 use serde_json::{Value, json};
 use std::alloc::{AllocError, Global};
 

@@ -16,14 +16,14 @@ use framehop_frames::json_files::FilePaths;
 use framehop_frames::json_values::{name_value, number_value};
 use framehop_frames::stack::Stack;
 use framehop_processes::Mapping;
-use framehop_symbols::files::Files;
+use framehop_processes::files::Files;
 use serde_json::{Value, json};
 use std::alloc::{AllocError, Global};
 
 /// What tells where files were read.
 pub trait PathSource {
     ghost use Rattle.std.specs.Prelude.{List, IfOk};
-    ghost use Rattle.framehop_symbols.specs.declared.files.Files.{Files};
+    ghost use Rattle.framehop_processes.specs.declared.files.Files.{Files};
     ghost use Rattle.framehop_frames.specs.declared.json_files.FilePaths.{FilePaths};
 
     // the paths that it may give for files

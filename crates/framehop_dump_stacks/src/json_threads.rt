@@ -12,7 +12,7 @@ use framehop_frames::json_values::{address_value, name_value};
 use framehop_frames::line::{address_of_end, end_name};
 use framehop_frames::stack::{Stack, StackFrame};
 use framehop_processes::Mapping;
-use framehop_symbols::files::Files;
+use framehop_processes::files::Files;
 use serde_json::{Value, json};
 use std::alloc::{AllocError, Global};
 

@@ -1,8 +1,8 @@
 //! The files whose code a process had mapped, and the modules of their mappings.
 ghost use Rattle.std.specs.Prelude.{◌≡◌, true, false, None, Ok, IfOk, IfErr, OnOk, slice_get};
 ghost use Rattle.framehop_processes.specs.Process.{HasModules};
-ghost use Rattle.framehop_symbols.specs.Files.{placed_at, is_left_out};
-ghost use Rattle.framehop_symbols.specs.MappedBytes.{mapped_sections_view};
+ghost use Rattle.framehop_processes.specs.Files.{placed_at, is_left_out};
+ghost use Rattle.framehop_processes.specs.MappedBytes.{mapped_sections_view};
 ghost use Rattle.framehop_dumps.specs.Dump.{mapped_code_view, dump_view, head_of};
 ghost use Rattle.framehop_dumps.specs.Image.{sections_in, sections_of};
 ghost use Rattle.framehop_dump_stacks.specs.FrameHeaders.{HasHeadersOf};
@@ -17,8 +17,8 @@ use framehop::section::ExplicitModuleSectionInfo;
 use framehop_dumps::dump::{Dump, MappedCode};
 use framehop_dumps::image::sections_behind;
 use framehop_processes::{Mapping, ModuleMaker, Process, ProcessUnwinder};
-use framehop_symbols::files::{FileSource, FileUnwinder, Files, placed_at};
-use framehop_symbols::mapped_bytes::MappedBytes;
+use framehop_processes::files::{FileSource, FileUnwinder, Files, placed_at};
+use framehop_processes::mapped_bytes::MappedBytes;
 use std::alloc::{AllocError, Global};
 
 /// Returns the files whose code is mapped, each once, of which nothing is read before [`read_files_asked_for`].

@@ -1,6 +1,6 @@
 //! What is said of files: of which nothing was read, and of which something was not.
 ghost use Rattle.std.specs.Prelude.{◌≡◌, Some, None, string_bytes, IfOk};
-ghost use Rattle.framehop_symbols.specs.Found.{has_names};
+ghost use Rattle.framehop_processes.specs.Found.{has_names};
 ghost use Rattle.framehop.specs.Parts.{is_unwind_data};
 ghost use Rattle.framehop_dumps.specs.Dump.{dump_view};
 ghost use Rattle.framehop_dump_stacks.specs.Problems.{range_end, needed_size, sizes_text, cut_text, wow64_text, file_text, lack_text, lack_line, AreObjectLines, IsProblemText, has_frames, is_in_memory, in_memory_text, IsLineOf, AreProblems, IsSaid};
@@ -11,9 +11,9 @@ use framehop_dumps::dump::{Dump, Kind, kind_name};
 use framehop_frames::line::push_name;
 use framehop_memory::memory::MemoryRange;
 use framehop_processes::Mapping;
-use framehop_symbols::files::NamedFile;
-use framehop_symbols::frames_text::frames_text;
-use framehop_symbols::object_file::{FileProblem, ObjectFile};
+use framehop_processes::files::NamedFile;
+use framehop_processes::frames_text::frames_text;
+use framehop_processes::object_file::{FileProblem, ObjectFile};
 use std::alloc::{AllocError, Global};
 
 /// The first address (AVMA) that is the kernel's.

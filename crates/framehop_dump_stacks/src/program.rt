@@ -2,7 +2,7 @@
 ghost use Rattle.std.specs.Prelude.{◌≡◌, ◌⊎◌, ◌||◌, true, false, List, ℕ, map, Ok, Err, IfOk, IfErr, OnOk};
 ghost use Rattle.std.specs.Io.KnownBytes.{Appends};
 ghost use Rattle.framehop_minidump.specs.declared.error.MinidumpError.{MinidumpError};
-ghost use Rattle.framehop_symbols.specs.declared.files.Files.{Files};
+ghost use Rattle.framehop_processes.specs.declared.files.Files.{Files};
 ghost use Rattle.framehop_dumps.specs.Dump.{DumpView, dump_view};
 ghost use Rattle.framehop_dump_stacks.specs.Ended.{drawn_in, MayEnd, MayEndWithFiles, MayEndWithModules};
 ghost use Rattle.framehop_dumps.specs.Minidump.{LoadedView, loaded_view, minidump_of, AreModuleFiles, dump_with};
@@ -30,8 +30,8 @@ use framehop_dumps::minidump::{LoadedModule, dump_in, read_module_files, read_pa
 use framehop_memory::left_out::LeftOut;
 use framehop_output::Output;
 use framehop_processes::{ModuleMaker, Process};
-use framehop_symbols::files::{FileSource, Files};
-use framehop_symbols::mapped_bytes::MappedBytes;
+use framehop_processes::files::{FileSource, Files};
+use framehop_processes::mapped_bytes::MappedBytes;
 use std::alloc::Global;
 use std::io;
 use std::io::Write;

@@ -20,7 +20,7 @@ use framehop_frames::explain::note_stack;
 use framehop_frames::stack::Stack;
 use framehop_output::Output;
 use framehop_processes::{Mapping, Process};
-use framehop_symbols::files::Files;
+use framehop_processes::files::Files;
 use std::alloc::{AllocError, Global};
 use std::io::Write;
 
@@ -31,7 +31,7 @@ pub trait Report {
     ghost use Rattle.framehop_frames.specs.Stack.{option_stack_view};
     ghost use Rattle.framehop_processes.specs.Mappings.{IsInOrder};
     ghost use Rattle.framehop_processes.specs.declared.mapping.Mapping.{Mapping};
-    ghost use Rattle.framehop_symbols.specs.declared.files.Files.{Files};
+    ghost use Rattle.framehop_processes.specs.declared.files.Files.{Files};
     ghost use Rattle.framehop_dumps.specs.Dump.{DumpView, thread_view, dump_view};
     ghost use Rattle.framehop_dump_stacks.specs.Report.{texts_of};
     ghost use Rattle.framehop_dump_stacks.specs.Walked.{WalkedThread};

@@ -21,7 +21,7 @@ use framehop_frames::stack::Stack;
 use framehop_frames::walk::walk_stack;
 use framehop_memory::memory::ProcessMemory;
 use framehop_processes::Process;
-use framehop_symbols::files::Files;
+use framehop_processes::files::Files;
 use std::alloc::{AllocError, Global};
 
 /// Walks the stack of a thread by at most `limit` frames, over the words of memory. Returns `None`

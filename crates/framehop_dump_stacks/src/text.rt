@@ -16,7 +16,7 @@ use framehop_frames::line::{push_name, refused_block};
 use framehop_frames::numbered::numbered_block;
 use framehop_frames::stack::Stack;
 use framehop_processes::Mapping;
-use framehop_symbols::files::Files;
+use framehop_processes::files::Files;
 use std::alloc::{AllocError, Global};
 
 /// Makes text of a dump: a block for each thread.

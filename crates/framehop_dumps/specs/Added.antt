@@ -1,9 +1,9 @@
 -- The files of a process, added one after another.
 use Rattle.std.specs.Prelude.{◌≡◌, ◌⊎◌, ℕ, List, [], ◌∷◌, Bool, true, false, Option, option_and_then}
-use Rattle.framehop_symbols.specs.Files.{number_in, object_in, is_left_out, IsWithoutFiles, IsAdded, IsAddedLeftOut, IsRead}
-use Rattle.framehop_symbols.specs.Source.{SourceView}
-use Rattle.framehop_symbols.specs.declared.object_file.ObjectFile.{ObjectFile}
-use Rattle.framehop_symbols.specs.declared.files.Files.{Files}
+use Rattle.framehop_processes.specs.Files.{number_in, object_in, is_left_out, IsWithoutFiles, IsAdded, IsAddedLeftOut, IsRead}
+use Rattle.framehop_processes.specs.Source.{SourceView}
+use Rattle.framehop_processes.specs.declared.object_file.ObjectFile.{ObjectFile}
+use Rattle.framehop_processes.specs.declared.files.Files.{Files}
 
 -- what was read of the file of a name
 abbrev pub object_called : Files → List ℕ → Option ObjectFile

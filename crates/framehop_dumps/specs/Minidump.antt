@@ -33,10 +33,10 @@ use Rattle.framehop_minidump.specs.declared.system_info.Machine.{Machine as Syst
 use Rattle.framehop_minidump.specs.declared.system_info.Machine.TheVariants as system
 use Rattle.framehop_minidump.specs.declared.thread.Thread.{Thread}
 use Rattle.framehop_minidump.specs.declared.thread_name.ThreadName.{ThreadName}
-use Rattle.framehop_symbols.specs.Source.{SourceView}
-use Rattle.framehop_symbols.specs.Files.{is_unix_path, is_windows_path}
-use Rattle.framehop_symbols.specs.declared.files.Files.{Files}
-use Rattle.framehop_symbols.specs.declared.object_file.ObjectFile.{ObjectFile}
+use Rattle.framehop_processes.specs.Source.{SourceView}
+use Rattle.framehop_processes.specs.Files.{is_unix_path, is_windows_path}
+use Rattle.framehop_processes.specs.declared.files.Files.{Files}
+use Rattle.framehop_processes.specs.declared.object_file.ObjectFile.{ObjectFile}
 use Rattle.framehop_dumps.specs.Added.{AreFiles, object_called}
 use Rattle.framehop_dumps.specs.Dump.{ThreadView, MappedCodeView, DumpView, of_context, crashed_first}
 use Rattle.framehop_dumps.specs.Image.{head_at, segments_in}

@@ -1,7 +1,7 @@
 //! What the memory of a process has of the files that it had mapped: their build ids and their unwind data.
 ghost use Rattle.std.specs.Prelude.{◌≡◌, IfOk, option_map};
 ghost use Rattle.framehop_memory.specs.Memory.{memory_view};
-ghost use Rattle.framehop_symbols.specs.MappedBytes.{mapped_sections_view};
+ghost use Rattle.framehop_processes.specs.MappedBytes.{mapped_sections_view};
 ghost use Rattle.framehop_dumps.specs.Image.{head_at, segments_in, build_id_in, eh_frame_header, memory_at, memory_after, frames_behind, call_frames_view, range_of, sections_of};
 
 use framehop_bytes::section::ExplicitModuleSectionInfo;
@@ -12,7 +12,7 @@ use framehop_elf::error::ElfError;
 use framehop_elf::header::read_file_header;
 use framehop_elf::program_header::{ProgramHeader, read_program_headers};
 use framehop_memory::memory::ProcessMemory;
-use framehop_symbols::mapped_bytes::MappedBytes;
+use framehop_processes::mapped_bytes::MappedBytes;
 use std::alloc::{AllocError, Global};
 use std::ops::Range;
 

@@ -13,7 +13,7 @@ ghost use Rattle.framehop_dumps.specs.Minidump.{each, each_within, names_limit, 
 ghost use Rattle.framehop_elf.specs.Segment.{loaded_segments_of};
 ghost use Rattle.framehop_minidump.specs.CodeView.{codeview_view};
 ghost use Rattle.framehop_minidump.specs.declared.error.MinidumpError.{MinidumpError};
-ghost use Rattle.framehop_symbols.specs.Files.{is_unix_path, IsAdded};
+ghost use Rattle.framehop_processes.specs.Files.{is_unix_path, IsAdded};
 ghost use Rattle.framehop_dumps.specs.ThreadNames.{named_view};
 
 use crate::dump::{Dump, Kind, MappedCode, Registers, Thread};
@@ -41,7 +41,7 @@ use framehop_minidump::string::{read_far_string, read_string};
 use framehop_minidump::system_info::{Machine as SystemMachine, read_system_info};
 use framehop_minidump::thread::{Thread as ListedThread, read_threads};
 use framehop_minidump::thread_name::{ThreadName, read_thread_names};
-use framehop_symbols::files::{FileSource, Files, is_unix_path, is_windows_path};
+use framehop_processes::files::{FileSource, Files, is_unix_path, is_windows_path};
 use std::alloc::{AllocError, Global};
 
 /// The platform of Windows.

@@ -9,10 +9,10 @@ use Rattle.framehop_backtrace.specs.declared.frame.FoundBy.{FoundBy}
 use Rattle.framehop_backtrace.specs.declared.frame.FoundBy.TheVariants.{First, Cfi, Signal, Run, FramePointer, Guess}
 use Rattle.framehop_core.specs.CodeAddress.{address_of}
 use Rattle.framehop_processes.specs.declared.mapping.Mapping.{Mapping}
-use Rattle.framehop_symbols.specs.Place.{PlaceView, in_function, in_unnamed, in_file, unmapped, has_address}
-use Rattle.framehop_symbols.specs.declared.files.Files.{Files}
-use Rattle.framehop_symbols.specs.declared.files.NamedFile.{NamedFile}
-use Rattle.framehop_symbols.specs.declared.object_file.ObjectFile.{ObjectFile}
+use Rattle.framehop_processes.specs.Place.{PlaceView, in_function, in_unnamed, in_file, unmapped, has_address}
+use Rattle.framehop_processes.specs.declared.files.Files.{Files}
+use Rattle.framehop_processes.specs.declared.files.NamedFile.{NamedFile}
+use Rattle.framehop_processes.specs.declared.object_file.ObjectFile.{ObjectFile}
 use Rattle.framehop_frames.specs.JsonFiles.{build_id_text, build_id_data, path_in, debug_path_in, file_data, files_data}
 use Rattle.framehop_frames.specs.JsonFrames.{offset_data, module_by, module_at, in_function_data, function_data, found_data, frame_data, frames_data}
 use Rattle.framehop_frames.specs.JsonValues.{number_data, address_data, name_data, or_null, values_from}

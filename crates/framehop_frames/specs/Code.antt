@@ -2,9 +2,9 @@
 use Rattle.std.specs.Prelude.{ℕ, ◌-◌, Bool, ◌||◌, ◌&&◌, nat_le, nat_lt, List, length, take, drop, Option, Some, None, option_and_then, if◌then◌else◌}
 use Rattle.std.specs.Option.{option_or}
 use Rattle.framehop_processes.specs.declared.mapping.Mapping.{Mapping}
-use Rattle.framehop_symbols.specs.Code.{code_at, is_mapped, is_at_entry}
-use Rattle.framehop_symbols.specs.Place.{PlaceView, in_function, in_unnamed, in_file, unmapped, place_at}
-use Rattle.framehop_symbols.specs.declared.files.Files.{Files}
+use Rattle.framehop_processes.specs.Code.{code_at, is_mapped, is_at_entry}
+use Rattle.framehop_processes.specs.Place.{PlaceView, in_function, in_unnamed, in_file, unmapped, place_at}
+use Rattle.framehop_processes.specs.declared.files.Files.{Files}
 use Rattle.framehop_backtrace.specs.Call.{passes}
 use Rattle.framehop_backtrace.specs.Code.{Code}
 use Rattle.framehop_backtrace.specs.Signal.{is_trampoline}

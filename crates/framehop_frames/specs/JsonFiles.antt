@@ -5,9 +5,9 @@ use Rattle.serde_json.specs.Data.{Data, null, boolean, string, object, member, n
 use Rattle.framehop_frames.specs.JsonValues.{name_data, or_null, values_from}
 use Rattle.framehop_frames.specs.declared.json_files.FilePaths.{FilePaths}
 use Rattle.framehop.specs.Parts.{is_unwind_data}
-use Rattle.framehop_symbols.specs.Found.{has_names}
-use Rattle.framehop_symbols.specs.declared.files.NamedFile.{NamedFile}
-use Rattle.framehop_symbols.specs.declared.object_file.ObjectFile.{ObjectFile}
+use Rattle.framehop_processes.specs.Found.{has_names}
+use Rattle.framehop_processes.specs.declared.files.NamedFile.{NamedFile}
+use Rattle.framehop_processes.specs.declared.object_file.ObjectFile.{ObjectFile}
 
 -- a build id in hexadecimal; null where the file has none
 abbrev pub build_id_text : List ℕ → Data

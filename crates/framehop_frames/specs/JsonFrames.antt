@@ -6,9 +6,9 @@ use Rattle.framehop_core.specs.CodeAddress.{address_of}
 use Rattle.framehop_backtrace.specs.declared.frame.FoundBy.{FoundBy}
 use Rattle.framehop_backtrace.specs.declared.frame.FoundBy.TheVariants.{First, Cfi, Signal, Run, FramePointer, Guess}
 use Rattle.framehop_processes.specs.declared.mapping.Mapping.{Mapping}
-use Rattle.framehop_symbols.specs.Place.{PlaceView, in_function, in_unnamed, in_file, unmapped, has_address}
-use Rattle.framehop_symbols.specs.declared.files.Files.{Files}
-use Rattle.framehop_symbols.specs.declared.files.NamedFile.{NamedFile}
+use Rattle.framehop_processes.specs.Place.{PlaceView, in_function, in_unnamed, in_file, unmapped, has_address}
+use Rattle.framehop_processes.specs.declared.files.Files.{Files}
+use Rattle.framehop_processes.specs.declared.files.NamedFile.{NamedFile}
 use Rattle.framehop_frames.specs.JsonValues.{number_data, address_data, name_data, or_null, values_from}
 use Rattle.framehop_frames.specs.Line.{ShownFrame, looked_up, is_after_call, frame_place}
 

@@ -14,8 +14,8 @@ use Rattle.framehop_explain.specs.Note.{has_c1_after}
 use Rattle.framehop_frames.specs.Unseen.{has_unseen_after}
 use Rattle.framehop_backtrace.specs.declared.frame.FoundBy.TheVariants.{First, Cfi, Signal, Run, FramePointer, Guess}
 use Rattle.framehop_processes.specs.declared.mapping.Mapping.{Mapping}
-use Rattle.framehop_symbols.specs.declared.files.Files.{Files}
-use Rattle.framehop_symbols.specs.Place.{PlaceView, in_function, in_unnamed, in_file, unmapped, place_at}
+use Rattle.framehop_processes.specs.declared.files.Files.{Files}
+use Rattle.framehop_processes.specs.Place.{PlaceView, in_function, in_unnamed, in_file, unmapped, place_at}
 
 -- in lower-case hexadecimal without leading zeros
 abbrev pub hexadecimal : ℕ → List ℕ

@@ -4,8 +4,8 @@ use Rattle.framehop_core.specs.CodeAddress.{FrameLocation, is_first_frame, looku
 use Rattle.framehop.specs.Modules.{ModuleView, UnwindData}
 use Rattle.framehop_processes.specs.declared.mapping.Mapping.{Mapping}
 use Rattle.framehop_backtrace.specs.Rows.{Finding, no_row, or_else}
-use Rattle.framehop_symbols.specs.DebugFrame.{debug_frame_at}
-use Rattle.framehop_symbols.specs.declared.files.Files.{Files}
+use Rattle.framehop_processes.specs.DebugFrame.{debug_frame_at}
+use Rattle.framehop_processes.specs.declared.files.Files.{Files}
 use Rattle.framehop_frames.specs.Walker.{Walker, row_limits}
 
 module _ (row_in : UnwindData → ℕ → Bool → Finding) where

@@ -6,8 +6,8 @@ ghost use Rattle.framehop_frames.specs.JsonFiles.{build_id_data, has_unwind_data
 ghost use Rattle.framehop_frames.specs.JsonValues.{or_null};
 
 use crate::json_values::{name_text, name_value};
-use framehop_symbols::files::NamedFile;
-use framehop_symbols::object_file::ObjectFile;
+use framehop_processes::files::NamedFile;
+use framehop_processes::object_file::ObjectFile;
 use serde_json::{Value, json};
 use std::alloc::{AllocError, Global};
 

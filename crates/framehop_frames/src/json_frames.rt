@@ -5,15 +5,15 @@ ghost use Rattle.serde_json.specs.View.{view, items_of};
 ghost use Rattle.framehop_frames.specs.JsonFrames.{offset_data, module_at, function_data, in_function_data, found_data, frame_data, frames_data};
 ghost use Rattle.framehop_frames.specs.Stack.{shown_frame};
 ghost use Rattle.framehop_processes.specs.Mappings.{IsInOrder};
-ghost use Rattle.framehop_symbols.specs.Place.{place_view};
+ghost use Rattle.framehop_processes.specs.Place.{place_view};
 
 use crate::json_values::{address_value, hexadecimal, name_text, name_value};
 use crate::place::{frame_place, is_after_call, looked_up};
 use crate::stack::StackFrame;
 use framehop_backtrace::FoundBy;
 use framehop_processes::Mapping;
-use framehop_symbols::files::{Files, NamedFile};
-use framehop_symbols::place::{Place, mapping_at};
+use framehop_processes::files::{Files, NamedFile};
+use framehop_processes::place::{Place, mapping_at};
 use serde_json::{Value, json};
 use std::alloc::{AllocError, Global};
 

@@ -6,7 +6,7 @@ ghost use Rattle.std.specs.Prelude.{◌≡◌, ◌<◌, ◌++◌, ◌∷◌, [],
 ghost use Rattle.std.specs.List.{flat_map, list_any};
 ghost use Rattle.framehop_explain.specs.Note.{has_c1_after};
 ghost use Rattle.framehop_processes.specs.Mappings.{IsInOrder};
-ghost use Rattle.framehop_symbols.specs.Place.{place_view};
+ghost use Rattle.framehop_processes.specs.Place.{place_view};
 ghost use Rattle.framehop_frames.specs.Stack.{shown_frame};
 ghost use Rattle.framehop_frames.specs.Unseen.{has_unseen_after};
 ghost use Rattle.framehop_frames.specs.Line.{is_text, hex_digit, is_changed, is_escaped, printed_byte, printed, plain, base_name, hexadecimal, label_of, unnamed_text, refusal_name, end_name, is_sure_by, is_guess, has_guess, part_of, address_of_end, end_text, mark, mark_of, frames_text, frame_label, described, found_text, trampoline_text, frame_line, last_line, time_text, head_of};
@@ -19,8 +19,8 @@ use framehop_backtrace::{BacktraceEnd, FoundBy};
 use framehop_bytes::bytes::front;
 use framehop_explain::note::has_c1;
 use framehop_processes::Mapping;
-use framehop_symbols::files::Files;
-use framehop_symbols::place::{Place, place_of};
+use framehop_processes::files::Files;
+use framehop_processes::place::{Place, place_of};
 use std::alloc::{AllocError, Global};
 
 /// How many bytes of a name are printed.

@@ -1,6 +1,6 @@
 //! The memory of a process with the code of the files that it maps.
 ghost use Rattle.std.specs.Prelude.{◌≡◌, ℕ, List, Bool, Option, option_map};
-ghost use Rattle.framehop_symbols.specs.Place.{place_view};
+ghost use Rattle.framehop_processes.specs.Place.{place_view};
 ghost use Rattle.framehop_frames.specs.Code.{bytes_from, bytes_at, start_in};
 
 use framehop::walk::{StackBytes, Words};
@@ -10,9 +10,9 @@ use framehop_bytes::bytes::back;
 use framehop_code::x86_64::action::Instruction;
 use framehop_callers::memory::WordMemory;
 use framehop_processes::{Process, ProcessUnwinder};
-use framehop_symbols::code::{code_at, is_at_entry, is_mapped};
-use framehop_symbols::files::Files;
-use framehop_symbols::place::{Place, place_of};
+use framehop_processes::code::{code_at, is_at_entry, is_mapped};
+use framehop_processes::files::Files;
+use framehop_processes::place::{Place, place_of};
 
 /// Memory of a process as an input has it: the stack of a sample, or what a dump has.
 pub trait KnownMemory: Words {

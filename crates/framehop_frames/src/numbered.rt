@@ -8,7 +8,7 @@ ghost use Rattle.framehop_frames.specs.Stack.{shown_frame};
 use crate::line::{end_text, push_frame_line, push_last_line};
 use crate::stack::{Stack, StackFrame};
 use framehop_processes::Mapping;
-use framehop_symbols::files::Files;
+use framehop_processes::files::Files;
 use std::alloc::{AllocError, Global};
 
 /// Returns the lines of a stack's frames, each after its number, and of its end, by its process's mappings in order.

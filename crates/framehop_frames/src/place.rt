@@ -3,12 +3,12 @@ ghost use Rattle.std.specs.Prelude.{◌≡◌};
 ghost use Rattle.framehop_frames.specs.Line.{looked_up, is_after_call, told_at, frame_place};
 ghost use Rattle.framehop_frames.specs.Stack.{shown_frame};
 ghost use Rattle.framehop_processes.specs.Mappings.{IsInOrder};
-ghost use Rattle.framehop_symbols.specs.Place.{place_view};
+ghost use Rattle.framehop_processes.specs.Place.{place_view};
 
 use crate::stack::StackFrame;
 use framehop_processes::Mapping;
-use framehop_symbols::files::Files;
-use framehop_symbols::place::{Place, place_of};
+use framehop_processes::files::Files;
+use framehop_processes::place::{Place, place_of};
 
 /// Returns where a frame is, by mappings in order: in the function of the address that is looked up for it, at its own
 /// address, as gdb prints it.

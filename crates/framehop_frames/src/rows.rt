@@ -8,8 +8,8 @@ use framehop_backtrace::{RowFinding, Rows};
 use framehop_cfi::context::UnwindContext;
 use framehop_cfi::storage::UnwindContextStorage;
 use framehop_processes::Process;
-use framehop_symbols::debug_frame::debug_frame_at;
-use framehop_symbols::files::Files;
+use framehop_processes::debug_frame::debug_frame_at;
+use framehop_processes::files::Files;
 use std::alloc::AllocError;
 
 /// The rows of the `.debug_frame` that the files which a process maps have beside their `.eh_frame`.

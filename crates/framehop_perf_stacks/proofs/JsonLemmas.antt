@@ -10,7 +10,7 @@ use Rattle.framehop_recording.specs.declared.sample.Sample.{Sample}
 use Rattle.framehop_perf_stacks.specs.Json.{told_if, time_if, thread_members, stack_members, stack_line, counted_line, rest_text, head_data}
 use Rattle.framehop_perf_stacks.specs.Samples.{thread_told}
 use Rattle.framehop_perf_stacks.specs.declared.run.Options.{Options}
-use Rattle.framehop_symbols.specs.declared.files.NamedFile.{NamedFile}
+use Rattle.framehop_processes.specs.declared.files.NamedFile.{NamedFile}
 
 thread-none : (name : List ℕ) (pid tid time : Option ℕ) → members_have_float (thread_members name pid tid time) ≡ false
 thread-none name pid tid time = neither _ _ (number-none pid) (neither _ _ (number-none tid) (neither _ _ (number-none time) refl))

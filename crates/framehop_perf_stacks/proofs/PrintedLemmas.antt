@@ -5,7 +5,7 @@ use Rattle.framehop_folded.specs.declared.folded.Folded.{Folded}
 use Rattle.framehop_recording.specs.Attributes.{AttributeView, attribute_view}
 use Rattle.framehop_recording.specs.Records.{RecordView}
 use Rattle.framehop_recording.specs.declared.error.RecordingError.{RecordingError}
-use Rattle.framehop_symbols.specs.declared.files.Files.{Files}
+use Rattle.framehop_processes.specs.declared.files.Files.{Files}
 use Rattle.framehop_perf_stacks.specs.Bodies.{own_body, IsCompleted}
 use Rattle.framehop_perf_stacks.specs.Ended.{before_refusal}
 use Rattle.framehop_perf_stacks.specs.Printed.{IsToldIn, IsSaid, IsMadeFrom, IsMadeOf, IsMadeWith, IsWhole, IsMadeUntil, IsMadeUntilWith, MayEndAt}

@@ -20,7 +20,7 @@ use Rattle.framehop_perf_stacks.specs.Names.{named_in}
 use Rattle.framehop_perf_stacks.specs.Processes.{mapped_in}
 use Rattle.framehop_perf_stacks.specs.Recording.{records_in}
 use Rattle.framehop_perf_stacks.specs.Samples.{State, state_in, state_after, state_over, drawn_over, Agrees, samples_from, Told, Each, IsTaken, AreTaken, lost_after, lost_over}
-use Rattle.framehop_symbols.specs.declared.files.Files.{Files}
+use Rattle.framehop_processes.specs.declared.files.Files.{Files}
 use Rattle.framehop_perf_stacks.specs.declared.names.Names.{Names}
 use Rattle.framehop_perf_stacks.proofs.EndedLemmas.{refused-first, none-before, taken-first, refused-after}
 use Rattle.framehop_perf_stacks.proofs.StateLemmas.{named-same, mapped-same, drawn-same}

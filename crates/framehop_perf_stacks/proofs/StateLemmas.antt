@@ -28,8 +28,8 @@ use Rattle.framehop_perf_stacks.specs.Processes.{Mapped, after}
 use Rattle.framehop_perf_stacks.specs.Samples.{State, mapped_by, IsUserStack, IsToldAt, Told, thread_name, is_full_user, stack_told, thread_by}
 use Rattle.framehop_perf_stacks.specs.declared.changes.Change.{Change}
 use Rattle.framehop_perf_stacks.specs.declared.changes.Change.TheVariants.{Map, Begin, Fork}
-use Rattle.framehop_symbols.specs.Files.{object_in}
-use Rattle.framehop_symbols.specs.declared.files.Files.{Files}
+use Rattle.framehop_processes.specs.Files.{object_in}
+use Rattle.framehop_processes.specs.declared.files.Files.{Files}
 use Rattle.framehop_frames.specs.Walker.{Walker}
 use Rattle.framehop_frames.specs.declared.machine.Start.{Start}
 use Rattle.framehop_perf_stacks.specs.declared.run.Options.{Options}

@@ -10,13 +10,13 @@ use Rattle.framehop_recording.specs.Records.{RecordView}
 use Rattle.framehop_recording.specs.Tasks.{CommandView, command_at, task_at}
 use Rattle.framehop_recording.specs.declared.error.RecordingError.{RecordingError}
 use Rattle.framehop_recording.specs.declared.tasks.Task.{Task}
-use Rattle.framehop_symbols.specs.Files.{number_in, map_number_in, object_in}
-use Rattle.framehop_symbols.specs.Place.{or_else}
+use Rattle.framehop_processes.specs.Files.{number_in, map_number_in, object_in}
+use Rattle.framehop_processes.specs.Place.{or_else}
 use Rattle.framehop_perf_stacks.specs.PerfMap.{is_anonymous}
 use Rattle.framehop_perf_stacks.specs.declared.changes.Change.{Change}
 use Rattle.framehop_perf_stacks.specs.declared.changes.Change.TheVariants.{Map, Begin, Fork}
-use Rattle.framehop_symbols.specs.declared.object_file.ObjectFile.{ObjectFile}
-use Rattle.framehop_symbols.specs.declared.files.Files.{Files}
+use Rattle.framehop_processes.specs.declared.object_file.ObjectFile.{ObjectFile}
+use Rattle.framehop_processes.specs.declared.files.Files.{Files}
 
 -- a mapping of a process's code: those of the kernel are of the process 2^32 - 1
 abbrev pub is_of_code : MappingView → Bool

@@ -9,9 +9,9 @@ use Rattle.framehop_recording.specs.Attributes.{AttributeView}
 use Rattle.framehop_recording.specs.BuildIds.{FileBuildIdView}
 use Rattle.framehop_recording.specs.Mapping.{MappingView}
 use Rattle.framehop_recording.specs.Records.{RecordView}
-use Rattle.framehop_symbols.specs.Files.{IsWithoutFiles, IsAdded}
-use Rattle.framehop_symbols.specs.Source.{SourceView}
-use Rattle.framehop_symbols.specs.declared.files.Files.{Files}
+use Rattle.framehop_processes.specs.Files.{IsWithoutFiles, IsAdded}
+use Rattle.framehop_processes.specs.Source.{SourceView}
+use Rattle.framehop_processes.specs.declared.files.Files.{Files}
 use Rattle.framehop_perf_stacks.specs.PerfMap.{IsMapRead}
 use Rattle.framehop_perf_stacks.specs.Sampled.{sampled_mappings}
 

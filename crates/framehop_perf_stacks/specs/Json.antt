@@ -8,7 +8,7 @@ use Rattle.serde_json.specs.Written.{compact_text, members_text}
 use Rattle.framehop_frames.specs.JsonFiles.{files_data}
 use Rattle.framehop_frames.specs.JsonValues.{number_data, address_data, name_data, or_null}
 use Rattle.framehop_frames.specs.declared.json_files.FilePaths.{FilePaths}
-use Rattle.framehop_symbols.specs.declared.files.NamedFile.{NamedFile}
+use Rattle.framehop_processes.specs.declared.files.NamedFile.{NamedFile}
 
 -- the machine of a recording: aarch64 (`true`) or x86_64
 abbrev pub machine_name : Bool → List ℕ

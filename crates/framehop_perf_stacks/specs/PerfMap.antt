@@ -3,10 +3,10 @@
 use Rattle.std.specs.Prelude.{◌≡◌, ℕ, ◌+◌, ◌^◌, ◌⊎◌, nat_lt, nat_eq, IsSome, drop, length, map, count_by, is_some, not, Bool, true, false, ◌&&◌, ◌||◌, List, ◌++◌, codes, decimal, Option, Some, None, option_and_then, ◌==◌, if◌then◌else◌}
 use Rattle.std.specs.List.{starts_with, filter_map}
 use Rattle.framehop_recording.specs.Mapping.{MappingView}
-use Rattle.framehop_symbols.specs.Files.{map_number_in, IsMapAdded}
-use Rattle.framehop_symbols.specs.declared.code_map.CodeFunction.{CodeFunction}
-use Rattle.framehop_symbols.specs.declared.code_map.CodeMap.{CodeMap}
-use Rattle.framehop_symbols.specs.declared.files.Files.{Files}
+use Rattle.framehop_processes.specs.Files.{map_number_in, IsMapAdded}
+use Rattle.framehop_processes.specs.declared.code_map.CodeFunction.{CodeFunction}
+use Rattle.framehop_processes.specs.declared.code_map.CodeMap.{CodeMap}
+use Rattle.framehop_processes.specs.declared.files.Files.{Files}
 use Rattle.framehop_perf_stacks.specs.Kallsyms.{value_after}
 use Rattle.framehop_perf_stacks.specs.Window.{before_byte, after_byte, lines_of}
 use Rattle.framehop_perf_stacks.specs.declared.perf_map.MapLine.{MapLine}

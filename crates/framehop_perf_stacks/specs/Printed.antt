@@ -8,7 +8,7 @@ use Rattle.framehop_recording.specs.Records.{RecordView}
 use Rattle.framehop_frames.specs.TakenText.{IsNoteX86_64, IsNoteAarch64}
 use Rattle.framehop_frames.specs.Walker.{x86_64_walker, aarch64_walker}
 use Rattle.framehop_frames.specs.declared.json_files.FilePaths.{FilePaths}
-use Rattle.framehop_symbols.specs.Files.{module_at}
+use Rattle.framehop_processes.specs.Files.{module_at}
 use Rattle.framehop_recording.specs.declared.error.RecordingError.{RecordingError}
 use Rattle.framehop_perf_stacks.specs.Bodies.{IsCompleted}
 use Rattle.framehop_perf_stacks.specs.Ended.{first_refusal, before_refusal, MayEnd}
@@ -18,7 +18,7 @@ use Rattle.framehop_perf_stacks.specs.Recording.{are_of_aarch64, records_in}
 use Rattle.framehop_perf_stacks.specs.Run.{is_sample}
 use Rattle.framehop_perf_stacks.specs.Samples.{State, beginning, drawn_over, samples_from, Told, Each, IsToldOf, IsMade, AreSummed}
 use Rattle.framehop_perf_stacks.specs.Start.{StartsX86_64, StartsAarch64}
-use Rattle.framehop_symbols.specs.declared.files.Files.{Files}
+use Rattle.framehop_processes.specs.declared.files.Files.{Files}
 use Rattle.framehop_perf_stacks.specs.Counts.{summary_text}
 use Rattle.framehop_perf_stacks.specs.declared.counts.Counts.{Counts}
 use Rattle.framehop_perf_stacks.specs.declared.error.StacksError.{StacksError}

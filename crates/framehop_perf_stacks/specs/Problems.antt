@@ -4,14 +4,14 @@ use Rattle.framehop_elf.specs.ErrorText.{elf_error_text}
 use Rattle.framehop_elf.specs.declared.decompressed.ContentsError.{ContentsError}
 use Rattle.framehop_frames.specs.Line.{plain}
 use Rattle.framehop_pe_file.specs.ErrorText.{pe_error_text}
-use Rattle.framehop_symbols.specs.FramesText.{IsFramesText}
-use Rattle.framehop_symbols.specs.ReadRefusal.{refusal_text}
-use Rattle.framehop_symbols.specs.declared.code_map.CodeMap.{CodeMap}
-use Rattle.framehop_symbols.specs.declared.files.Files.{Files}
-use Rattle.framehop_symbols.specs.declared.files.NamedFile.{NamedFile}
-use Rattle.framehop_symbols.specs.declared.object_file.ObjectFile.{ObjectFile}
-use Rattle.framehop_symbols.specs.declared.object_file.FileProblem.{FileProblem}
-use Rattle.framehop_symbols.specs.declared.object_file.FileProblem.TheVariants.{NotRead, Elf, Pe, OtherBuildId}
+use Rattle.framehop_processes.specs.FramesText.{IsFramesText}
+use Rattle.framehop_processes.specs.ReadRefusal.{refusal_text}
+use Rattle.framehop_processes.specs.declared.code_map.CodeMap.{CodeMap}
+use Rattle.framehop_processes.specs.declared.files.Files.{Files}
+use Rattle.framehop_processes.specs.declared.files.NamedFile.{NamedFile}
+use Rattle.framehop_processes.specs.declared.object_file.ObjectFile.{ObjectFile}
+use Rattle.framehop_processes.specs.declared.object_file.FileProblem.{FileProblem}
+use Rattle.framehop_processes.specs.declared.object_file.FileProblem.TheVariants.{NotRead, Elf, Pe, OtherBuildId}
 
 -- Why nothing was read of a file: it is not given, it is another one, or its reader's reason, as that prints itself.
 abbrev pub IsProblemText : FileProblem → List ℕ → Type 0

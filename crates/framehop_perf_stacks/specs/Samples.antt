@@ -47,7 +47,7 @@ use Rattle.framehop_perf_stacks.specs.Run.{sample_refusal}
 use Rattle.framehop_perf_stacks.specs.Vdso.{has_unread_vdso}
 use Rattle.framehop_perf_stacks.specs.declared.changes.Change.{Change}
 use Rattle.framehop_perf_stacks.specs.declared.counts.Counts.{Counts}
-use Rattle.framehop_symbols.specs.declared.files.Files.{Files}
+use Rattle.framehop_processes.specs.declared.files.Files.{Files}
 use Rattle.framehop_frames.specs.declared.machine.Start.{Start}
 use Rattle.framehop_perf_stacks.specs.declared.names.Names.{Names}
 use Rattle.framehop_perf_stacks.specs.declared.processes.MappedProcess.{MappedProcess}

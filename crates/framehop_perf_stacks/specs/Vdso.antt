@@ -3,10 +3,10 @@ use Rattle.std.specs.Prelude.{Bool, false, not, ◌&&◌, is_some, List, Option,
 use Rattle.std.specs.List.{find, list_any}
 use Rattle.framehop_frames.specs.Line.{ShownFrame, looked_up}
 use Rattle.framehop_processes.specs.declared.mapping.Mapping.{Mapping}
-use Rattle.framehop_symbols.specs.Files.{is_vdso}
-use Rattle.framehop_symbols.specs.Place.{has_address}
-use Rattle.framehop_symbols.specs.declared.files.Files.{Files}
-use Rattle.framehop_symbols.specs.declared.files.NamedFile.{NamedFile}
+use Rattle.framehop_processes.specs.Files.{is_vdso}
+use Rattle.framehop_processes.specs.Place.{has_address}
+use Rattle.framehop_processes.specs.declared.files.Files.{Files}
+use Rattle.framehop_processes.specs.declared.files.NamedFile.{NamedFile}
 
 -- a file is the vdso, and nothing was read of it
 abbrev pub is_unread_vdso : Option NamedFile → Bool

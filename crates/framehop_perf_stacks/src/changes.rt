@@ -2,7 +2,7 @@
 ghost use Rattle.std.specs.Prelude.{◌≡◌, option_map};
 ghost use Rattle.framehop_recording.specs.Mapping.{mapping_view};
 ghost use Rattle.framehop_recording.specs.Records.{record_view};
-ghost use Rattle.framehop_symbols.specs.Files.{object_in};
+ghost use Rattle.framehop_processes.specs.Files.{object_in};
 ghost use Rattle.framehop_perf_stacks.specs.Changes.{is_of_code, number_for, base_in, mapping_based, code_mapping_in, maps_file, forks_process, change_in};
 
 use crate::perf_map::is_anonymous;
@@ -12,7 +12,7 @@ use framehop_recording::kind::{COMM, FORK, MMAP, MMAP2};
 use framehop_recording::mapping::{Mapping as RecordedMapping, read_mapping};
 use framehop_recording::records::Record;
 use framehop_recording::tasks::{Task, read_command, read_task};
-use framehop_symbols::files::Files;
+use framehop_processes::files::Files;
 
 /// The process of the kernel's mappings.
 const KERNEL: u32 = u32::MAX;

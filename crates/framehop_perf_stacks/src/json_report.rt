@@ -19,7 +19,7 @@ use framehop_folded::folded::Folded;
 use framehop_frames::json_files::{FilePaths, files_value};
 use framehop_output::Output;
 use framehop_recording::error::RecordingError;
-use framehop_symbols::files::{Files, NamedFile};
+use framehop_processes::files::{Files, NamedFile};
 use serde_json::{Value, json};
 use std::alloc::{AllocError, Global};
 use std::io::Write;

@@ -4,10 +4,10 @@ ghost use Rattle.framehop_perf_stacks.specs.Problems.{left_out_text, frames_prob
 
 use framehop_elf::decompressed::ContentsError;
 use framehop_frames::line::push_name;
-use framehop_symbols::code_map::CodeMap;
-use framehop_symbols::files::{Files, NamedFile};
-use framehop_symbols::frames_text::frames_text;
-use framehop_symbols::object_file::{FileProblem, ObjectFile};
+use framehop_processes::code_map::CodeMap;
+use framehop_processes::files::{Files, NamedFile};
+use framehop_processes::frames_text::frames_text;
+use framehop_processes::object_file::{FileProblem, ObjectFile};
 use std::alloc::{AllocError, Global};
 
 /// Returns a line for each file of which nothing was read, or of which something was not, in the order of the files: its

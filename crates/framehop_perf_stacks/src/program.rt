@@ -16,7 +16,7 @@ ghost use Rattle.framehop_perf_stacks.specs.Printed.{AreTold, IsMadeOf, IsMadeWi
 ghost use Rattle.framehop_perf_stacks.specs.Written.{ends_unwritten, has_one_failed, AreNoted};
 ghost use Rattle.framehop_perf_stacks.specs.Recording.{records_in, events_in, IsReadOf};
 ghost use Rattle.framehop_perf_stacks.specs.Samples.{beginning, samples_from, Each, IsToldOf, Told, IsMade};
-ghost use Rattle.framehop_symbols.specs.declared.files.Files.{Files};
+ghost use Rattle.framehop_processes.specs.declared.files.Files.{Files};
 ghost use Rattle.framehop_perf_stacks.specs.declared.error.StacksError.TheVariants.{OutOfMemory, CannotWrite, Recording as Refused};
 ghost use Rattle.framehop_perf_stacks.specs.declared.recording.Recording.{Recording};
 
@@ -36,8 +36,8 @@ use framehop_folded::folded::Folded;
 use framehop_output::Output;
 use framehop_processes::ModuleMaker;
 use framehop_recording::error::RecordingError;
-use framehop_symbols::files::{FileModules, FileSource, Files};
-use framehop_symbols::mapped_bytes::MappedBytes;
+use framehop_processes::files::{FileModules, FileSource, Files};
+use framehop_processes::mapped_bytes::MappedBytes;
 use std::alloc::Global;
 use std::io::Write;
 

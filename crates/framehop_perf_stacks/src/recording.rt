@@ -26,7 +26,7 @@ use framehop_recording::mapping::Mapping;
 use framehop_recording::order::{TimedRecord, in_order_of_time};
 use framehop_recording::records::{Record, read_records};
 use framehop_recording::sample::{Sample, read_sample};
-use framehop_symbols::files::{FileSource, Files};
+use framehop_processes::files::{FileSource, Files};
 use std::alloc::{AllocError, Global};
 use std::collections::BTreeMap;
 

@@ -26,7 +26,7 @@ ghost use Rattle.framehop_perf_stacks.specs.Samples.{State, beginning, state_in,
 ghost use Rattle.framehop_frames.specs.Notes.{option_noted, AreStackNotes};
 ghost use Rattle.framehop_frames.specs.Stack.{shown_frame};
 ghost use Rattle.framehop_perf_stacks.specs.declared.error.StacksError.TheVariants.{OutOfMemory, Recording as RecordingRefused};
-ghost use Rattle.framehop_symbols.specs.declared.files.Files.{Files};
+ghost use Rattle.framehop_processes.specs.declared.files.Files.{Files};
 
 use crate::chain::chain_frames;
 use crate::changes::change_of;
@@ -59,7 +59,7 @@ use framehop_recording::kind::{LOST, SAMPLE};
 use framehop_recording::records::Record;
 use framehop_recording::sample::{CallChain, Sample, UserStack};
 use framehop_recording::tasks::read_lost;
-use framehop_symbols::files::Files;
+use framehop_processes::files::Files;
 use std::alloc::{AllocError, Global};
 use std::io::Write;
 

@@ -16,7 +16,7 @@ use framehop_frames::rows::DebugFrames;
 use framehop_frames::stack::Stack;
 use framehop_frames::walk::walk_stack;
 use framehop_processes::Process;
-use framehop_symbols::files::Files;
+use framehop_processes::files::Files;
 use std::alloc::{AllocError, Global};
 
 /// Walks the stack of a sample of a process by at most `limit` frames, from the registers with which a walk begins, over

@@ -7,8 +7,8 @@ ghost use Rattle.framehop_perf_stacks.specs.Vdso.{is_unread_vdso, is_in_unread_v
 use framehop_frames::place::looked_up;
 use framehop_frames::stack::StackFrame;
 use framehop_processes::Mapping;
-use framehop_symbols::files::{Files, NamedFile, is_vdso};
-use framehop_symbols::place::mapping_at;
+use framehop_processes::files::{Files, NamedFile, is_vdso};
+use framehop_processes::place::mapping_at;
 
 /// Returns whether one of frames is in a vdso of which no file was read, by mappings in order.
 pub(crate) fn has_unread_vdso<R: Copy>(

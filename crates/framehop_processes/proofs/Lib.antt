@@ -2,3 +2,10 @@
 mod MappingLemmas
 mod AddressLemmas
 mod ExchangeLemmas
+mod CodeLemmas
+mod CodeMapLemmas
+mod FileLemmas
+mod MapLemmas
+mod PlaceLemmas
+mod PlainnessLemmas
+mod FrameLemmas

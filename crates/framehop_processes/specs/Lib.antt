@@ -3,3 +3,18 @@ pub mod Refusal
 pub mod Mappings
 pub mod Process
 pub mod Shared
+-- What the contracts of this crate cite: the files that processes map, and where addresses are in them.
+pub mod ReadRefusal
+pub mod Source
+pub mod MadeUpId
+pub mod MappedBytes
+pub mod ObjectFiles
+pub mod CodeMap
+pub mod Files
+pub mod Place
+pub mod Code
+pub mod Found
+pub mod DebugFrame
+pub mod FramesText
+pub mod FunctionStart
+pub mod Exports

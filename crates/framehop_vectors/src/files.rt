@@ -2,12 +2,12 @@
 //! `checks/cases/elf_files`.
 use crate::small::{BUILD_ID, SMALL};
 use framehop_processes::Mapping;
-use framehop_symbols::code::code_at;
-use framehop_symbols::debug_frame::debug_frame_at;
-use framehop_symbols::files::{FileSource, Files};
-use framehop_symbols::object_file::{FileProblem, ObjectFile};
-use framehop_symbols::place::place_of;
-use framehop_symbols::read_refusal::ReadRefusal;
+use framehop_processes::code::code_at;
+use framehop_processes::debug_frame::debug_frame_at;
+use framehop_processes::files::{FileSource, Files};
+use framehop_processes::object_file::{FileProblem, ObjectFile};
+use framehop_processes::place::place_of;
+use framehop_processes::read_refusal::ReadRefusal;
 use std::alloc::{AllocError, Global};
 
 /// A disk with the program at one path, and whether memory runs out where its debug file is read.

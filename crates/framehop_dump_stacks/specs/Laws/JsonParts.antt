@@ -6,7 +6,7 @@ use Rattle.serde_json.specs.Written.{comma_if, compact_text, items_text, members
 use Rattle.serde_json.proofs.OnLiterals.{serde_json_on_literals}
 use Rattle.json.specs.Print.{quoted}
 use Rattle.framehop_processes.specs.declared.mapping.Mapping.{Mapping}
-use Rattle.framehop_symbols.specs.declared.files.Files.{Files}
+use Rattle.framehop_processes.specs.declared.files.Files.{Files}
 use Rattle.framehop_frames.specs.declared.json_files.FilePaths.{FilePaths}
 use Rattle.framehop_dumps.specs.Dump.{DumpView}
 use Rattle.framehop_dump_stacks.specs.Report.{texts_of}

@@ -1,7 +1,7 @@
 -- The blocks of threads, one after another.
 use Rattle.std.proofs.Common.{◌≡◌, refl, ℕ, List, [], ◌∷◌, ◌++◌, Bool, true, false, ap, ◌∙◌, append-nil}
 use Rattle.framehop_processes.specs.declared.mapping.Mapping.{Mapping}
-use Rattle.framehop_symbols.specs.declared.files.Files.{Files}
+use Rattle.framehop_processes.specs.declared.files.Files.{Files}
 use Rattle.framehop_dumps.specs.Dump.{DumpView}
 use Rattle.framehop_dump_stacks.specs.Report.{texts_of}
 use Rattle.framehop_dump_stacks.specs.Text.{block_text, blocks_text}

@@ -1,6 +1,6 @@
 use Rattle.std.proofs.Common.{map, drop}
-use Rattle.framehop_symbols.specs.Files.{IsWithoutFiles}
-use Rattle.framehop_symbols.specs.declared.files.Files.{Files}
+use Rattle.framehop_processes.specs.Files.{IsWithoutFiles}
+use Rattle.framehop_processes.specs.declared.files.Files.{Files}
 use Rattle.framehop_dumps.specs.Added.{AreAddedLeftOut}
 use Rattle.framehop_dumps.specs.Dump.{mapped_code_view}
 use Rattle.framehop_dump_stacks.proofs.modules.leave_out_files.Given as goal

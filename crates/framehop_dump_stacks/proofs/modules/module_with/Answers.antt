@@ -2,7 +2,7 @@ use Rattle.std.proofs.Common.{[], sym, ap, ◌∙◌}
 use Rattle.framehop_bytes.specs.ExplicitSections.{table_of}
 use Rattle.framehop.specs.Laws.SectionContents.{data-of_bytes}
 use Rattle.framehop.specs.Modules.{ModuleView, UnwindData}
-use Rattle.framehop_symbols.specs.MappedBytes.{contents_of}
+use Rattle.framehop_processes.specs.MappedBytes.{contents_of}
 use Rattle.framehop_dump_stacks.proofs.modules.module_with.Goals as goal
 
 with_data : UnwindData → ModuleView

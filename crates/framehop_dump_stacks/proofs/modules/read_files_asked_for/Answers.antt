@@ -1,6 +1,6 @@
 use Rattle.std.proofs.Common.{◌≡◌, ◌<◌, ◌+◌, ℕ, List, [], true, false, inl, inr, map, drop, length, refl, sym, ◌∙◌, subst, arith}
 use Rattle.std.proofs.lemmas.List.{at_drop_all}
-use Rattle.framehop_symbols.specs.declared.files.Files.{Files}
+use Rattle.framehop_processes.specs.declared.files.Files.{Files}
 use Rattle.framehop_dump_stacks.proofs.DumpLemmas.{code-left}
 use Rattle.framehop_dumps.specs.Added.{AreReadSince}
 use Rattle.framehop_dumps.specs.Dump.{MappedCodeView, mapped_code_view}

@@ -1,5 +1,5 @@
 use Rattle.std.proofs.Common.{◌≡◌, false, map, drop}
-use Rattle.framehop_symbols.specs.declared.files.Files.{Files}
+use Rattle.framehop_processes.specs.declared.files.Files.{Files}
 use Rattle.framehop_dumps.specs.Added.{AreReadSince}
 use Rattle.framehop_dumps.specs.Dump.{mapped_code_view}
 use Rattle.framehop_dump_stacks.proofs.modules.read_files_asked_for.Given as goal

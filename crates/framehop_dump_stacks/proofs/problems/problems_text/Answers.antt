@@ -1,6 +1,6 @@
 use Rattle.std.proofs.Common.{◌<◌, ◌≤◌, ◌++◌, length, ap, ◌∙◌, subst, arith}
 use Rattle.std.proofs.lemmas.List.{at_drop_all}
-use Rattle.framehop_symbols.specs.declared.files.NamedFile.{NamedFile}
+use Rattle.framehop_processes.specs.declared.files.NamedFile.{NamedFile}
 use Rattle.framehop_dumps.specs.Dump.{dump_view}
 use Rattle.framehop_dump_stacks.specs.Problems.{IsLineOf}
 use Rattle.framehop_dump_stacks.proofs.ProblemLemmas.{next-line, all-lines}

@@ -1,6 +1,6 @@
 use Rattle.std.proofs.Common.{map, drop}
-use Rattle.framehop_symbols.specs.Files.{IsWithoutFiles}
-use Rattle.framehop_symbols.specs.declared.files.Files.{Files}
+use Rattle.framehop_processes.specs.Files.{IsWithoutFiles}
+use Rattle.framehop_processes.specs.declared.files.Files.{Files}
 use Rattle.framehop_dumps.specs.Added.{AreAdded}
 use Rattle.framehop_dumps.specs.Minidump.{loaded_view}
 use Rattle.framehop_dumps.proofs.minidump.read_module_files.Given as goal

@@ -2,7 +2,7 @@ use Rattle.std.proofs.Common.{◌<◌, ℕ, length, ap, ◌∙◌, arith}
 use Rattle.serde_json.specs.Data.{Data}
 use Rattle.serde_json.specs.View.{view}
 use Rattle.framehop_frames.specs.JsonFiles.{path_in, debug_path_in, file_data}
-use Rattle.framehop_symbols.specs.declared.files.NamedFile.{NamedFile}
+use Rattle.framehop_processes.specs.declared.files.NamedFile.{NamedFile}
 use Rattle.framehop_frames.proofs.JsonLemmas.{values-more}
 use Rattle.framehop_frames.proofs.json_files.files_value.Goals as goal
 

@@ -1,6 +1,6 @@
 use Rattle.std.proofs.Common.{ℕ, List, subst}
 use Rattle.framehop_recording.specs.Mapping.{mapping_view}
-use Rattle.framehop_symbols.specs.Files.{IsAdded}
+use Rattle.framehop_processes.specs.Files.{IsAdded}
 use Rattle.framehop_perf_stacks.proofs.recording.add_file.Goals as goal
 
 pub returns-clause-added : goal.returns-clause-added

@@ -1,9 +1,9 @@
 use Rattle.std.proofs.Common.{map, drop}
 use Rattle.framehop_recording.specs.BuildIds.{file_build_id_view}
 use Rattle.framehop_recording.specs.Mapping.{mapping_view}
-use Rattle.framehop_symbols.specs.Files.{IsWithoutFiles}
+use Rattle.framehop_processes.specs.Files.{IsWithoutFiles}
 use Rattle.framehop_perf_stacks.specs.Files.{AreAdded}
-use Rattle.framehop_symbols.specs.declared.files.Files.{Files}
+use Rattle.framehop_processes.specs.declared.files.Files.{Files}
 use Rattle.framehop_perf_stacks.proofs.recording.read_files.Given as goal
 
 abbrev pub invariant-loop-mapping : goal.invariant-loop-mapping

@@ -2,7 +2,7 @@
 use Rattle.std.proofs.Common.{◌≡◌, ◌∙◌, IfOk, ap, sym, subst}
 use Rattle.std.specs.Prelude.{slice_get}
 use Rattle.framehop.specs.Modules.{ModuleView}
-use Rattle.framehop_symbols.specs.Files.{placed_at}
+use Rattle.framehop_processes.specs.Files.{placed_at}
 use Rattle.framehop_dumps.specs.Dump.{dump_view}
 use Rattle.framehop_dump_stacks.specs.Modules.{module_with, sections_by}
 use Rattle.framehop_dump_stacks.proofs.FrameHeaderLemmas.{none-seen, nothing-of}

@@ -1,7 +1,0 @@
-mod CodeLemmas
-mod CodeMapLemmas
-mod FileLemmas
-mod MapLemmas
-mod PlaceLemmas
-mod PlainnessLemmas
-mod FrameLemmas

@@ -1,6 +1,0 @@
-use Rattle.std.proofs.Common.{take}
-use Rattle.framehop_symbols.specs.CodeMap.{AreNumberedOf}
-use Rattle.framehop_symbols.proofs.code_map.CodeFunctions.new.Given as goal
-
-abbrev pub invariant-loop-number : goal.invariant-loop-number
-invariant-loop-number l = AreNumberedOf l.fn.functions.items (take l.number l.fn.functions.items) l.by_address
