@@ -5,7 +5,7 @@ use Rattle.std.specs.List.{list_any, range_with_len}
 use Rattle.std.specs.List.Sorted.{IsNonDecreasingBy}
 use Rattle.std.proofs.lemmas.List.Folds.{list_any_none, list_any_at}
 use Rattle.std.proofs.lemmas.Bool.{ltb-true, leb-true}
-use Rattle.framehop_coredump.specs.declared.mapped_file.MappedFile.{MappedFile}
+use Rattle.framehop_dump_files.specs.declared.coredump.mapped_file.MappedFile.{MappedFile}
 use Rattle.framehop_memory.specs.declared.memory.MemoryRange.{MemoryRange}
 use Rattle.framehop_disk.specs.declared.segments.LoadedSegment.{LoadedSegment}
 use Rattle.framehop_disk.specs.declared.wanted.WantedSegment.{WantedSegment}

@@ -7,11 +7,11 @@ use Rattle.framehop_elf.specs.Segment.{loaded_segments_of}
 use Rattle.framehop_elf.specs.declared.error.ElfError.{ElfError}
 use Rattle.framehop_elf.specs.declared.header.FileHeader.{FileHeader}
 use Rattle.framehop_elf.specs.declared.program_header.ProgramHeader.{ProgramHeader}
-use Rattle.framehop_coredump.specs.CoreFile.{core_file_of}
-use Rattle.framehop_coredump.specs.declared.core_file.Machine.{Machine}
-use Rattle.framehop_coredump.specs.declared.mapped_file.MappedFile.{MappedFile}
-use Rattle.framehop_coredump.specs.MappedFile.{mapped_file_view, mapped_files_of}
-use Rattle.framehop_coredump.specs.Note.{PlacedView, notes_of}
+use Rattle.framehop_dump_files.specs.Coredump.CoreFile.{core_file_of}
+use Rattle.framehop_dump_files.specs.declared.coredump.core_file.Machine.{Machine}
+use Rattle.framehop_dump_files.specs.declared.coredump.mapped_file.MappedFile.{MappedFile}
+use Rattle.framehop_dump_files.specs.Coredump.MappedFile.{mapped_file_view, mapped_files_of}
+use Rattle.framehop_dump_files.specs.Coredump.Note.{PlacedView, notes_of}
 use Rattle.framehop_disk.specs.declared.segments.LoadedSegment.{LoadedSegment}
 use Rattle.framehop_disk.specs.declared.wanted.WantedSegment.{WantedSegment}
 use Rattle.framehop_disk.specs.ObjectParts.{written}

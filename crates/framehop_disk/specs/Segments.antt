@@ -1,7 +1,7 @@
 -- Which segments of a core file's memory are read apart.
 use Rattle.std.specs.Prelude.{ℕ, ◌+◌, ◌-◌, ◌*◌, ◌/◌, ◌^◌, Bool, true, not, ◌&&◌, nat_le, nat_lt, List, [], ◌∷◌, map, flat_map, min, if◌then◌else◌}
 use Rattle.std.specs.List.{filter, list_any, range_with_len}
-use Rattle.framehop_coredump.specs.declared.mapped_file.MappedFile.{MappedFile}
+use Rattle.framehop_dump_files.specs.declared.coredump.mapped_file.MappedFile.{MappedFile}
 use Rattle.framehop_memory.specs.declared.memory.MemoryRange.{MemoryRange}
 use Rattle.framehop_memory.specs.declared.segment.Segment.{Segment}
 use Rattle.framehop_disk.specs.declared.segments.LoadedSegment.{LoadedSegment}

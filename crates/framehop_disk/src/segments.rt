@@ -5,7 +5,7 @@ ghost use Rattle.std.specs.List.Sorted.{IsNonDecreasingBy};
 ghost use Rattle.framehop_disk.specs.Segments.{are_apart, had, has_file, is_cut, is_cut_off, loaded_of, piece_of, pieces_beside, pieces_of, segments_in, start_of, unread, wanted_beside};
 
 use crate::wanted::WantedSegment;
-use framehop_coredump::mapped_file::MappedFile;
+use framehop_dump_files::coredump::mapped_file::MappedFile;
 use framehop_memory::memory::MemoryRange;
 use framehop_memory::segment::Segment;
 use std::alloc::{AllocError, Global};

@@ -1,7 +1,7 @@
 -- Minidumps that are read.
 use Rattle.std.proofs.Common.{◌≡◌, ℕ, List, Ok, Err, ap, sym, subst, Result, ◌∙◌}
 use Rattle.framehop_bytes.specs.Bytes.{◌>>=◌}
-use Rattle.framehop_minidump.specs.declared.error.MinidumpError.{MinidumpError}
+use Rattle.framehop_dump_files.specs.declared.minidump.error.MinidumpError.{MinidumpError}
 use Rattle.framehop_dumps.specs.Dump.{DumpView}
 use Rattle.framehop_dumps.specs.Minidump.{PartsView, parts_of, dump_in, minidump_of}
 

@@ -1,8 +1,8 @@
 -- Why a core file or a minidump gives no stacks, by what refused it.
-use Rattle.framehop_coredump.specs.declared.error.CoreFileError.{CoreFileError}
-use Rattle.framehop_coredump.specs.declared.error.CoreFileError.TheVariants as file
-use Rattle.framehop_minidump.specs.declared.error.MinidumpError.{MinidumpError}
-use Rattle.framehop_minidump.specs.declared.error.MinidumpError.TheVariants as minidump
+use Rattle.framehop_dump_files.specs.declared.coredump.error.CoreFileError.{CoreFileError}
+use Rattle.framehop_dump_files.specs.declared.coredump.error.CoreFileError.TheVariants as file
+use Rattle.framehop_dump_files.specs.declared.minidump.error.MinidumpError.{MinidumpError}
+use Rattle.framehop_dump_files.specs.declared.minidump.error.MinidumpError.TheVariants as minidump
 use Rattle.framehop_processes.specs.declared.error.ProcessesError.{ProcessesError}
 use Rattle.framehop_processes.specs.declared.error.ProcessesError.TheVariants as processes
 use Rattle.framehop_dump_stacks.specs.declared.error.DumpStacksError.{DumpStacksError}

@@ -2,8 +2,8 @@
 use Rattle.std.specs.Prelude.{ℕ, List, Option, Some, None, option_map, codes}
 use Rattle.framehop_core.specs.Aarch64.Registers.{Registers as RegistersAarch64}
 use Rattle.framehop_core.specs.X86_64.Registers.{Registers as RegistersX86_64}
-use Rattle.framehop_coredump.specs.Registers as kernel
-use Rattle.framehop_minidump.specs.Registers as context
+use Rattle.framehop_dump_files.specs.Coredump.Registers as kernel
+use Rattle.framehop_dump_files.specs.Minidump.Registers as context
 use Rattle.framehop.specs.Modules.{ModuleView}
 use Rattle.framehop_backtrace.specs.Code.{Code}
 use Rattle.framehop_memory.specs.Memory.{bytes_after}

@@ -2,8 +2,8 @@
 use Rattle.std.specs.Prelude.{◌≡◌, ℕ, Bool, true, false, List, [], ◌∷◌, map, Option, option_map, Result}
 use Rattle.framehop_core.specs.CodeAddress.{FrameLocation}
 use Rattle.framehop_core.specs.Memory.{Memory}
-use Rattle.framehop_coredump.specs.declared.core_file.Machine.{Machine}
-use Rattle.framehop_coredump.specs.declared.core_file.Machine.TheVariants.{X86_64, Aarch64}
+use Rattle.framehop_dump_files.specs.declared.coredump.core_file.Machine.{Machine}
+use Rattle.framehop_dump_files.specs.declared.coredump.core_file.Machine.TheVariants.{X86_64, Aarch64}
 use Rattle.framehop.specs.Modules.{ModuleView}
 use Rattle.framehop_backtrace.specs.declared.frame.BacktraceEnd.{BacktraceEnd}
 use Rattle.framehop_backtrace.specs.declared.frame.FoundBy.{FoundBy}

@@ -1,8 +1,8 @@
 //! Why a core file or a minidump gives no stacks.
 ghost use Rattle.std.specs.Prelude.{◌≡◌};
 
-use framehop_coredump::error::CoreFileError;
-use framehop_minidump::error::MinidumpError;
+use framehop_dump_files::coredump::error::CoreFileError;
+use framehop_dump_files::minidump::error::MinidumpError;
 use framehop_processes::ProcessesError;
 use std::alloc::AllocError;
 use std::io;

@@ -9,7 +9,7 @@ use crate::json_crash::crash_value;
 use crate::json_modules::modules_value;
 use crate::json_threads::thread_value;
 use crate::report::Report;
-use framehop_coredump::core_file::Machine;
+use framehop_dump_files::coredump::core_file::Machine;
 use framehop_dumps::dump::{Dump, Thread, kind_name};
 use framehop_explain::Note;
 use framehop_frames::json_files::FilePaths;

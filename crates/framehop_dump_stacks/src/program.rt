@@ -1,7 +1,7 @@
 //! From the bytes of a core file or a minidump to a report of the stacks of its threads.
 ghost use Rattle.std.specs.Prelude.{◌≡◌, ◌⊎◌, ◌||◌, true, false, List, ℕ, map, Ok, Err, IfOk, IfErr, OnOk};
 ghost use Rattle.std.specs.Io.KnownBytes.{Appends};
-ghost use Rattle.framehop_minidump.specs.declared.error.MinidumpError.{MinidumpError};
+ghost use Rattle.framehop_dump_files.specs.declared.minidump.error.MinidumpError.{MinidumpError};
 ghost use Rattle.framehop_processes.specs.declared.files.Files.{Files};
 ghost use Rattle.framehop_dumps.specs.Dump.{DumpView, dump_view};
 ghost use Rattle.framehop_dump_stacks.specs.Ended.{drawn_in, MayEnd, MayEndWithFiles, MayEndWithModules};
@@ -24,7 +24,7 @@ use crate::report::{Report, write_part, write_report};
 use framehop::aarch64::UnwinderAarch64;
 use framehop::cache::MustNotAllocateDuringUnwind;
 use framehop::x86_64::UnwinderX86_64;
-use framehop_coredump::core_file::Machine;
+use framehop_dump_files::coredump::core_file::Machine;
 use framehop_dumps::dump::Dump;
 use framehop_dumps::minidump::{LoadedModule, dump_in, read_module_files, read_parts, with_code};
 use framehop_memory::left_out::LeftOut;

@@ -3,7 +3,7 @@ use Rattle.std.proofs.Common.{◌≡◌, ℕ, suc, ◌+◌, ◌<◌, List, [], �
 use Rattle.std.proofs.Math.Seq.{drop-cons, drop-length}
 use Rattle.std.proofs.lemmas.List.{map-append}
 use Rattle.framehop_bytes.specs.Bytes.{◌>>=◌}
-use Rattle.framehop_minidump.specs.declared.error.MinidumpError.{MinidumpError}
+use Rattle.framehop_dump_files.specs.declared.minidump.error.MinidumpError.{MinidumpError}
 use Rattle.framehop_dumps.specs.Minidump.{each}
 
 -- what was given before, with what comes after it

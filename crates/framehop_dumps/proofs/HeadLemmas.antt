@@ -10,8 +10,8 @@ use denote.Ref.{Bor}
 use Rattle.std.proofs.lemmas.Bool.{cases_Bool}
 use Rattle.std.proofs.lemmas.List.{take_more, map-append}
 use Rattle.std.proofs.lemmas.List.Folds.{find-append}
-use Rattle.framehop_coredump.specs.MappedFile.{MappedFileView, mapped_file_view}
-use Rattle.framehop_coredump.specs.declared.mapped_file.MappedFile.{MappedFile}
+use Rattle.framehop_dump_files.specs.Coredump.MappedFile.{MappedFileView, mapped_file_view}
+use Rattle.framehop_dump_files.specs.declared.coredump.mapped_file.MappedFile.{MappedFile}
 use Rattle.framehop_memory.specs.Memory.{MemoryView}
 use Rattle.framehop_dumps.specs.CoreDump.{is_beginning, head_by, head_in}
 use Rattle.framehop_dumps.specs.Heads.{FileHeadView, file_head_view, file_head_of, kept_at, beginning_head}

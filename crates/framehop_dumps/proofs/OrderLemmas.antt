@@ -3,8 +3,8 @@ use Rattle.std.proofs.Common.{◌≡◌, ℕ, ◌+◌, ◌<◌, Bool, List, [], 
 use Rattle.std.specs.Prelude.{filter, not, ◌||◌, ◌==◌}
 use Rattle.std.proofs.lemmas.List.{at_drop_more, take_more, map-append}
 use Rattle.std.proofs.lemmas.List.Elements.{filter-append}
-use Rattle.framehop_coredump.specs.Thread.{thread_view as noted_view}
-use Rattle.framehop_coredump.specs.declared.thread.Thread.{Thread as NotedThread}
+use Rattle.framehop_dump_files.specs.Coredump.Thread.{thread_view as noted_view}
+use Rattle.framehop_dump_files.specs.declared.coredump.thread.Thread.{Thread as NotedThread}
 use Rattle.framehop_dumps.specs.CoreDump.{thread_of, threads_by}
 use Rattle.framehop_dumps.specs.Dump.{ThreadView}
 

@@ -3,7 +3,7 @@ use Rattle.std.proofs.Common.{◌≡◌, ℕ, ◌+◌, ◌-◌, ◌<◌, List, [
 use Rattle.std.proofs.Math.Seq.{drop-length}
 use Rattle.std.proofs.lemmas.List.{map-append}
 use Rattle.framehop_bytes.specs.Bytes.{◌>>=◌}
-use Rattle.framehop_minidump.specs.declared.error.MinidumpError.{MinidumpError}
+use Rattle.framehop_dump_files.specs.declared.minidump.error.MinidumpError.{MinidumpError}
 use Rattle.framehop_dumps.specs.Minidump.{each_within}
 use Rattle.framehop_dumps.proofs.EachLemmas.{prepended, prepended-more, append-none, items-are}
 

@@ -5,17 +5,17 @@ use Rattle.std.specs.Cmp.Lexicographic.{pointwise}
 use Rattle.std.specs.List.{find, flat_map}
 use Rattle.std.specs.Option.{is_some}
 use Rattle.framehop_bytes.specs.Bytes.{◌>>=◌}
-use Rattle.framehop_coredump.specs.AuxiliaryVector.{vdso_of}
-use Rattle.framehop_coredump.specs.CoreFile.{core_file_of}
-use Rattle.framehop_coredump.specs.MappedFile.{MappedFileView, mapped_files_of}
-use Rattle.framehop_coredump.specs.Note.{PlacedView, notes_of}
-use Rattle.framehop_coredump.specs.OtherSystem.{without_threads}
-use Rattle.framehop_coredump.specs.Process.{ProcessView, process_of}
-use Rattle.framehop_coredump.specs.Thread.{ThreadView as NotedView, threads_of}
-use Rattle.framehop_coredump.specs.declared.core_file.Machine.{Machine}
-use Rattle.framehop_coredump.specs.declared.error.CoreFileError.{CoreFileError}
-use Rattle.framehop_coredump.specs.declared.signal_info.SignalInfo.{SignalInfo}
-use Rattle.framehop_coredump.specs.Memory.{range_of}
+use Rattle.framehop_dump_files.specs.Coredump.AuxiliaryVector.{vdso_of}
+use Rattle.framehop_dump_files.specs.Coredump.CoreFile.{core_file_of}
+use Rattle.framehop_dump_files.specs.Coredump.MappedFile.{MappedFileView, mapped_files_of}
+use Rattle.framehop_dump_files.specs.Coredump.Note.{PlacedView, notes_of}
+use Rattle.framehop_dump_files.specs.Coredump.OtherSystem.{without_threads}
+use Rattle.framehop_dump_files.specs.Coredump.Process.{ProcessView, process_of}
+use Rattle.framehop_dump_files.specs.Coredump.Thread.{ThreadView as NotedView, threads_of}
+use Rattle.framehop_dump_files.specs.declared.coredump.core_file.Machine.{Machine}
+use Rattle.framehop_dump_files.specs.declared.coredump.error.CoreFileError.{CoreFileError}
+use Rattle.framehop_dump_files.specs.declared.coredump.signal_info.SignalInfo.{SignalInfo}
+use Rattle.framehop_dump_files.specs.Coredump.Memory.{range_of}
 use Rattle.framehop_elf.specs.Segment.{loaded_segments_of}
 use Rattle.framehop_elf.specs.declared.program_header.ProgramHeader.{ProgramHeader}
 use Rattle.framehop_memory.specs.Code.{has_address}

@@ -3,7 +3,7 @@ use Rattle.std.specs.Prelude.{nat_eq, ℕ, List, [], ◌++◌, codes, map, filte
 use Rattle.std.specs.Cmp.Lexicographic.{pointwise}
 use Rattle.std.specs.List.{find}
 use Rattle.framehop_core.specs.Memory.{Memory}
-use Rattle.framehop_coredump.specs.declared.core_file.Machine.{Machine}
+use Rattle.framehop_dump_files.specs.declared.coredump.core_file.Machine.{Machine}
 use Rattle.framehop_memory.specs.Code.{is_code_in}
 use Rattle.framehop_memory.specs.Memory.{MemoryView, memory_view, word_of}
 use Rattle.framehop_memory.specs.declared.segment.Segment.{Segment}

@@ -5,34 +5,34 @@ use Rattle.std.specs.Int.Count.{count_leading_zeros}
 use Rattle.std.specs.List.{after_last, flat_map, fold, list_any, sum_by}
 use Rattle.std.specs.Str.{str_eq_ignore_ascii_case}
 use Rattle.framehop_bytes.specs.Bytes.{◌>>=◌}
-use Rattle.framehop_coredump.specs.declared.core_file.Machine.{Machine}
-use Rattle.framehop_coredump.specs.declared.core_file.Machine.TheVariants as dumped
+use Rattle.framehop_dump_files.specs.declared.coredump.core_file.Machine.{Machine}
+use Rattle.framehop_dump_files.specs.declared.coredump.core_file.Machine.TheVariants as dumped
 use Rattle.framehop_elf.specs.Segment.{loaded_segments_of}
-use Rattle.framehop_minidump.specs.CodeView.{CodeViewView, of_pdb, of_elf, codeview_of}
-use Rattle.framehop_minidump.specs.Exception.{exception_of, context_of}
-use Rattle.framehop_minidump.specs.Location.{located}
-use Rattle.framehop_minidump.specs.Memory.{ranges_of}
-use Rattle.framehop_minidump.specs.LinuxMaps.{maps_of}
-use Rattle.framehop_minidump.specs.MemoryInfo.{regions_of}
-use Rattle.framehop_minidump.specs.MiscInfo.{process_id_of}
-use Rattle.framehop_minidump.specs.Module.{modules_of}
-use Rattle.framehop_minidump.specs.Stream.{streams_of}
-use Rattle.framehop_minidump.specs.String.{string_of}
-use Rattle.framehop_minidump.specs.SystemInfo.{system_info_of}
-use Rattle.framehop_minidump.specs.Thread.{threads_of}
-use Rattle.framehop_minidump.specs.ThreadName.{thread_names_of}
-use Rattle.framehop_minidump.specs.declared.error.MinidumpError.{MinidumpError}
-use Rattle.framehop_minidump.specs.declared.error.MinidumpError.TheVariants.{NoThreads, SharedHeaders, SharedNames}
-use Rattle.framehop_minidump.specs.declared.exception.Exception.{Exception}
+use Rattle.framehop_dump_files.specs.Minidump.CodeView.{CodeViewView, of_pdb, of_elf, codeview_of}
+use Rattle.framehop_dump_files.specs.Minidump.Exception.{exception_of, context_of}
+use Rattle.framehop_dump_files.specs.Minidump.Location.{located}
+use Rattle.framehop_dump_files.specs.Minidump.Memory.{ranges_of}
+use Rattle.framehop_dump_files.specs.Minidump.LinuxMaps.{maps_of}
+use Rattle.framehop_dump_files.specs.Minidump.MemoryInfo.{regions_of}
+use Rattle.framehop_dump_files.specs.Minidump.MiscInfo.{process_id_of}
+use Rattle.framehop_dump_files.specs.Minidump.Module.{modules_of}
+use Rattle.framehop_dump_files.specs.Minidump.Stream.{streams_of}
+use Rattle.framehop_dump_files.specs.Minidump.String.{string_of}
+use Rattle.framehop_dump_files.specs.Minidump.SystemInfo.{system_info_of}
+use Rattle.framehop_dump_files.specs.Minidump.Thread.{threads_of}
+use Rattle.framehop_dump_files.specs.Minidump.ThreadName.{thread_names_of}
+use Rattle.framehop_dump_files.specs.declared.minidump.error.MinidumpError.{MinidumpError}
+use Rattle.framehop_dump_files.specs.declared.minidump.error.MinidumpError.TheVariants.{NoThreads, SharedHeaders, SharedNames}
+use Rattle.framehop_dump_files.specs.declared.minidump.exception.Exception.{Exception}
 use Rattle.framehop_memory.specs.Memory.{MemoryView}
 use Rattle.framehop_memory.specs.Segment.{base_of, base_from}
 use Rattle.framehop_memory.specs.declared.segment.Segment.{Segment}
-use Rattle.framehop_minidump.specs.declared.module.Module.{Module}
-use Rattle.framehop_minidump.specs.declared.stream.Stream.{Stream}
-use Rattle.framehop_minidump.specs.declared.system_info.Machine.{Machine as SystemMachine}
-use Rattle.framehop_minidump.specs.declared.system_info.Machine.TheVariants as system
-use Rattle.framehop_minidump.specs.declared.thread.Thread.{Thread}
-use Rattle.framehop_minidump.specs.declared.thread_name.ThreadName.{ThreadName}
+use Rattle.framehop_dump_files.specs.declared.minidump.module.Module.{Module}
+use Rattle.framehop_dump_files.specs.declared.minidump.stream.Stream.{Stream}
+use Rattle.framehop_dump_files.specs.declared.minidump.system_info.Machine.{Machine as SystemMachine}
+use Rattle.framehop_dump_files.specs.declared.minidump.system_info.Machine.TheVariants as system
+use Rattle.framehop_dump_files.specs.declared.minidump.thread.Thread.{Thread}
+use Rattle.framehop_dump_files.specs.declared.minidump.thread_name.ThreadName.{ThreadName}
 use Rattle.framehop_processes.specs.Source.{SourceView}
 use Rattle.framehop_processes.specs.Files.{is_unix_path, is_windows_path}
 use Rattle.framehop_processes.specs.declared.files.Files.{Files}

@@ -3,9 +3,9 @@
 -- dump has.
 use Rattle.std.specs.Prelude.{ℕ, ◌+◌, ◌-◌, List, [], length, ◌==◌, nat_lt, if◌then◌else◌, Option, Some, None, unwrap_or, Result, Ok, Err}
 use Rattle.std.specs.List.{sum_by}
-use Rattle.framehop_coredump.specs.MappedFile.{MappedFileView}
-use Rattle.framehop_coredump.specs.declared.error.CoreFileError.{CoreFileError}
-use Rattle.framehop_coredump.specs.declared.error.CoreFileError.TheVariants.{SharedHeaders}
+use Rattle.framehop_dump_files.specs.Coredump.MappedFile.{MappedFileView}
+use Rattle.framehop_dump_files.specs.declared.coredump.error.CoreFileError.{CoreFileError}
+use Rattle.framehop_dump_files.specs.declared.coredump.error.CoreFileError.TheVariants.{SharedHeaders}
 use Rattle.framehop_elf.specs.BuildId.{notes_of_segment}
 use Rattle.framehop_elf.specs.declared.program_header.ProgramHeader.{ProgramHeader}
 use Rattle.framehop_memory.specs.Memory.{MemoryView}

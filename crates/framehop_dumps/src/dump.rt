@@ -3,7 +3,7 @@
 ghost use Rattle.std.specs.Prelude.{◌≡◌};
 ghost use Rattle.framehop_dumps.specs.Dump.{dump_view, is_code_at, kind_name};
 
-use framehop_coredump::core_file::Machine;
+use framehop_dump_files::coredump::core_file::Machine;
 use framehop_memory::code::CodeSegments;
 use framehop_memory::memory::ProcessMemory;
 
@@ -19,14 +19,14 @@ pub enum Kind {
 /// The registers of a thread, for its machine.
 #[derive(Clone, Copy, Drop)]
 pub enum Registers<'a> {
-    /// As Linux keeps them: `framehop_coredump::registers` reads them.
+    /// As Linux keeps them: `framehop_dump_files::coredump::registers` reads them.
     Kernel {
         /// Eight bytes for each register.
         values: &'a [u8],
         /// The bits of an address of code that are its signature, where they are known.
         pac_mask: Option<u64>,
     },
-    /// A context: `framehop_minidump::registers` reads it.
+    /// A context: `framehop_dump_files::minidump::registers` reads it.
     Context {
         /// Its bytes.
         values: &'a [u8],

@@ -2,12 +2,12 @@
 ghost use Rattle.std.specs.Prelude.{◌≡◌, ◌∷◌, [], List, ℕ, Some, None, IfOk, OnOk, cond, unwrap_or, nat_eq, map};
 ghost use Rattle.std.specs.Cmp.Lexicographic.{pointwise};
 ghost use Rattle.std.specs.Option.{option_or};
-ghost use Rattle.framehop_coredump.specs.MappedFile.{mapped_file_view};
+ghost use Rattle.framehop_dump_files.specs.Coredump.MappedFile.{mapped_file_view};
 ghost use Rattle.framehop_memory.specs.Memory.{memory_view};
 ghost use Rattle.framehop_dumps.specs.Heads.{file_head_view, file_head_of, kept_at, beginning_head, HasBeginnings};
 
 use crate::image::{build_id_in, head_at, segments_in};
-use framehop_coredump::mapped_file::MappedFile;
+use framehop_dump_files::coredump::mapped_file::MappedFile;
 use framehop_elf::segment::loaded_segments;
 use framehop_memory::memory::ProcessMemory;
 use framehop_memory::segment::Segment;

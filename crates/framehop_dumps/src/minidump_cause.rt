@@ -4,7 +4,7 @@ ghost use Rattle.framehop_dumps.specs.Minidump.{sent_of, only_stops, signal_of, 
 
 use crate::dump::{Access, Cause, Exception as WindowsException, Sent, Signal};
 use crate::minidump::WINDOWS;
-use framehop_minidump::exception::Exception;
+use framehop_dump_files::minidump::exception::Exception;
 
 /// The platform of Linux, `MD_OS_LINUX` of Breakpad.
 const LINUX: u32 = 0x8201;

@@ -4,19 +4,19 @@
 //! more than the dump has: such a dump is refused before they are all read.
 ghost use Rattle.std.specs.Prelude.{◌≡◌, ◌⊎◌, Ok, Err, MatchResult, IfOk, map};
 ghost use Rattle.std.specs.List.{sum_by};
-ghost use Rattle.framehop_coredump.specs.MappedFile.{mapped_file_view};
+ghost use Rattle.framehop_dump_files.specs.Coredump.MappedFile.{mapped_file_view};
 ghost use Rattle.framehop_memory.specs.Memory.{memory_view};
 ghost use Rattle.framehop_dumps.specs.Minidump.{loaded_view, module_size, with_own_modules};
 ghost use Rattle.framehop_dumps.specs.SharedHeaders.{notes_in, header_size, headers_size, left_after, mapped_size, with_own_headers};
 
 use crate::image::{head_at, segments_in};
 use crate::minidump::LoadedModule;
-use framehop_coredump::error::CoreFileError;
-use framehop_coredump::mapped_file::MappedFile;
+use framehop_dump_files::coredump::error::CoreFileError;
+use framehop_dump_files::coredump::mapped_file::MappedFile;
 use framehop_elf::program_header::{ENTRY_SIZE as PROGRAM_HEADER_SIZE, PT_NOTE, ProgramHeader};
 use framehop_elf::segment::read_segment;
 use framehop_memory::memory::ProcessMemory;
-use framehop_minidump::error::MinidumpError;
+use framehop_dump_files::minidump::error::MinidumpError;
 use std::alloc::{AllocError, Global};
 
 /// Refuses mapped files whose first bytes tell of more program headers and notes than memory has bytes.

@@ -1,8 +1,8 @@
 -- Of which threads of a core file the top of the stack is read at once.
 use Rattle.std.specs.Prelude.{ℕ, Option, None, option_map}
-use Rattle.framehop_coredump.specs.Registers.{x86_64_registers, aarch64_registers, code_mask_of}
-use Rattle.framehop_coredump.specs.declared.core_file.Machine.{Machine}
-use Rattle.framehop_coredump.specs.declared.core_file.Machine.TheVariants.{X86_64, Aarch64}
+use Rattle.framehop_dump_files.specs.Coredump.Registers.{x86_64_registers, aarch64_registers, code_mask_of}
+use Rattle.framehop_dump_files.specs.declared.coredump.core_file.Machine.{Machine}
+use Rattle.framehop_dump_files.specs.declared.coredump.core_file.Machine.TheVariants.{X86_64, Aarch64}
 use Rattle.framehop_dumps.specs.declared.dump.Registers.{Registers}
 use Rattle.framehop_dumps.specs.declared.dump.Registers.TheVariants.{Kernel, Context}
 

@@ -1,5 +1,5 @@
 use Rattle.std.proofs.Common.{◌≡◌, ◌⊎◌, ◌||◌, List, inl, inr, ⊎_elim, Err, rules, subst}
-use Rattle.framehop_minidump.specs.declared.error.MinidumpError.{MinidumpError}
+use Rattle.framehop_dump_files.specs.declared.minidump.error.MinidumpError.{MinidumpError}
 use Rattle.framehop_dumps.specs.Dump.{DumpView, dump_view}
 use Rattle.framehop_dump_stacks.specs.Ended.{MayEndWithModules}
 use Rattle.framehop_dumps.specs.Minidump.{LoadedView, parts_view, minidump_of}

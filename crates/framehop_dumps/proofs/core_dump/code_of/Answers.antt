@@ -2,7 +2,7 @@ use Rattle.std.proofs.Common.{◌<◌, List, length, map, refl, ap, sym, ◌∙�
 use Rattle.std.specs.List.{flat_map}
 use Rattle.std.proofs.lemmas.List.{take_all}
 use Rattle.std.proofs.lemmas.List.Folds.{flat_map-map}
-use Rattle.framehop_coredump.specs.MappedFile.{MappedFileView, mapped_file_view}
+use Rattle.framehop_dump_files.specs.Coredump.MappedFile.{MappedFileView, mapped_file_view}
 use Rattle.framehop_dumps.specs.CoreDump.{code_if}
 use Rattle.framehop_dumps.specs.Dump.{MappedCodeView}
 use Rattle.framehop_memory.specs.Memory.{memory_view}

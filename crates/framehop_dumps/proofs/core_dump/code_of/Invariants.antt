@@ -1,6 +1,6 @@
 use Rattle.std.proofs.Common.{◌≡◌, map, take}
 use Rattle.std.specs.List.{flat_map}
-use Rattle.framehop_coredump.specs.MappedFile.{mapped_file_view}
+use Rattle.framehop_dump_files.specs.Coredump.MappedFile.{mapped_file_view}
 use Rattle.framehop_dumps.specs.CoreDump.{code_if}
 use Rattle.framehop_dumps.specs.Dump.{mapped_code_view}
 use Rattle.framehop_memory.specs.Memory.{memory_view}

@@ -1,6 +1,6 @@
 use Rattle.std.proofs.Common.{◌≡◌, ◌<◌, ◌++◌, [], length, map, drop, ap, sym, ◌∙◌, append-nil, arith}
 use Rattle.std.proofs.lemmas.List.{at_drop_all}
-use Rattle.framehop_coredump.specs.Thread.{thread_view as noted_view}
+use Rattle.framehop_dump_files.specs.Coredump.Thread.{thread_view as noted_view}
 use Rattle.framehop_dumps.specs.CoreDump.{threads_by}
 use Rattle.framehop_dumps.specs.Dump.{thread_view}
 use Rattle.framehop_dumps.proofs.OrderLemmas.{thread-next}

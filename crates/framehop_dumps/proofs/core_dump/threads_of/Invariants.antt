@@ -1,5 +1,5 @@
 use Rattle.std.proofs.Common.{◌≡◌, ◌++◌, false, map, drop}
-use Rattle.framehop_coredump.specs.Thread.{thread_view as noted_view}
+use Rattle.framehop_dump_files.specs.Coredump.Thread.{thread_view as noted_view}
 use Rattle.framehop_dumps.specs.CoreDump.{threads_by}
 use Rattle.framehop_dumps.specs.Dump.{thread_view}
 use Rattle.framehop_dumps.proofs.core_dump.threads_of.Given as goal

@@ -1,6 +1,6 @@
 use Rattle.std.proofs.Common.{◌≡◌, drop, length, map}
 use Rattle.std.specs.List.{sum_by}
-use Rattle.framehop_coredump.specs.MappedFile.{mapped_file_view}
+use Rattle.framehop_dump_files.specs.Coredump.MappedFile.{mapped_file_view}
 use Rattle.framehop_memory.specs.Memory.{memory_view}
 use Rattle.framehop_dumps.specs.SharedHeaders.{left_after, mapped_size}
 use Rattle.framehop_dumps.proofs.shared_headers.check_mapped_files.Given as goal

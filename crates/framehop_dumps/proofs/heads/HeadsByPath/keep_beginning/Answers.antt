@@ -1,7 +1,7 @@
 use Rattle.std.proofs.Common.{◌≡◌, ◌∙◌, false, true, ap, sym, arith}
 use Rattle.std.specs.Prelude.{nat_eq}
 use Rattle.std.proofs.lemmas.Bool.Decides.{nat_tests}
-use Rattle.framehop_coredump.specs.MappedFile.{mapped_file_view}
+use Rattle.framehop_dump_files.specs.Coredump.MappedFile.{mapped_file_view}
 use Rattle.framehop_memory.specs.Memory.{memory_view}
 use Rattle.framehop_dumps.specs.Heads.{file_head_of}
 use Rattle.framehop_dumps.proofs.HeadLemmas.{passed-over, kept-before, kept-now}

@@ -1,6 +1,6 @@
 use Rattle.std.proofs.Common.{◌<◌, length, map, ap, ◌∙◌, arith}
 use Rattle.std.proofs.lemmas.List.{take_all}
-use Rattle.framehop_coredump.specs.MappedFile.{mapped_file_view}
+use Rattle.framehop_dump_files.specs.Coredump.MappedFile.{mapped_file_view}
 use Rattle.framehop_memory.specs.Memory.{memory_view}
 use Rattle.framehop_dumps.specs.Heads.{beginning_head}
 use Rattle.framehop_dumps.proofs.HeadLemmas.{one-more-kept}

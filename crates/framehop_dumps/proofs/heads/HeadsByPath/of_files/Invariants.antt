@@ -1,5 +1,5 @@
 use Rattle.std.proofs.Common.{map, take}
-use Rattle.framehop_coredump.specs.MappedFile.{mapped_file_view}
+use Rattle.framehop_dump_files.specs.Coredump.MappedFile.{mapped_file_view}
 use Rattle.framehop_memory.specs.Memory.{memory_view}
 use Rattle.framehop_dumps.specs.Heads.{HasBeginnings}
 use Rattle.framehop_dumps.proofs.heads.HeadsByPath.of_files.Given as goal

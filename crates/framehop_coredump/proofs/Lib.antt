@@ -1,6 +1,0 @@
--- Lemmas of this crate.
-pub mod GatherLemmas
-pub mod NoteLemmas
-pub mod ThreadLemmas
-pub mod FileLemmas
-mod VectorLemmas

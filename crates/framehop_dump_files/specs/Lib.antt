@@ -1,0 +1,2 @@
+pub mod Coredump
+pub mod Minidump

@@ -1,0 +1,5 @@
+
+#![tactic(auto)]
+
+pub mod coredump;
+pub mod minidump;
