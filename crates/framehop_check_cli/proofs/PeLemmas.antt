@@ -2,7 +2,7 @@
 use Rattle.std.proofs.Common.{◌≡◌, ◌+◌, ◌-◌, ◌<◌, ℕ, suc, List, Option, Some, None, refl, ap, ◌∙◌, arith}
 use Rattle.std.specs.List.{filter_map, fold, range_with_len}
 use Rattle.framehop_pe.specs.declared.unwind_info.function_table.RuntimeFunction.{RuntimeFunction}
-use Rattle.framehop_pe_file.specs.PeFile.{PeFile}
+use Rattle.framehop_object.specs.Pe.PeFile.{PeFile}
 use Rattle.framehop_check_cli.specs.Findings.{Found}
 use Rattle.framehop_check_cli.specs.PeFindings.{function_in, with_entry, with_found}
 use Rattle.framehop_check_cli.specs.declared.file.Options.{Options}

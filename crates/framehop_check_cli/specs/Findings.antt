@@ -10,8 +10,8 @@ use Rattle.framehop_cfi.specs.Section.{Section}
 use Rattle.framehop_cfi.specs.declared.entry.FrameDescriptionEntry.{FrameDescriptionEntry}
 use Rattle.framehop_code.specs.declared.effect.Base.{Base}
 use Rattle.framehop_code.specs.declared.effect.Effect.{Effect}
-use Rattle.framehop_elf.specs.Symbol.{symbol_for}
-use Rattle.framehop_elf.specs.declared.symbol.Symbol.{Symbol}
+use Rattle.framehop_object.specs.Elf.Symbol.{symbol_for}
+use Rattle.framehop_object.specs.declared.elf.symbol.Symbol.{Symbol}
 use Rattle.framehop_check.specs.Check.{first_pass, items_of_fde, all_of_fde, alarms_from, notes_from}
 use Rattle.framehop_check.specs.Counts.{is_empty, with_function}
 use Rattle.framehop_check.specs.Entries.{AreEntries, fdes_of, unreadable_in}

@@ -2,12 +2,12 @@
 use Rattle.std.specs.Prelude.{ℕ, ◌≡◌, List, [], map, Option, Some, None, Result, Ok, IsPermutation}
 use Rattle.framehop_cfi.specs.Section.{Section, section_of}
 use Rattle.framehop_cfi.specs.declared.entry.UnwindSectionType.{UnwindSectionType}
-use Rattle.framehop_elf.specs.Decompressed.{decompressed_of}
-use Rattle.framehop_elf.specs.ElfFile.{ElfFile, elf_file_of}
-use Rattle.framehop_elf.specs.Symbol.{function_symbols_of, symbol_names_of}
-use Rattle.framehop_elf.specs.declared.error.ElfError.{ElfError}
-use Rattle.framehop_elf.specs.declared.section_header.SectionHeader.{SectionHeader}
-use Rattle.framehop_elf.specs.declared.symbol.Symbol.{Symbol}
+use Rattle.framehop_object.specs.Elf.Decompressed.{decompressed_of}
+use Rattle.framehop_object.specs.Elf.ElfFile.{ElfFile, elf_file_of}
+use Rattle.framehop_object.specs.Elf.Symbol.{function_symbols_of, symbol_names_of}
+use Rattle.framehop_object.specs.declared.elf.error.ElfError.{ElfError}
+use Rattle.framehop_object.specs.declared.elf.section_header.SectionHeader.{SectionHeader}
+use Rattle.framehop_object.specs.declared.elf.symbol.Symbol.{Symbol}
 use Rattle.framehop_check.specs.declared.sections.CodeSection.{CodeSection}
 use Rattle.framehop_check_cli.specs.Parts.{code_of, code_view, range_of_symbol, rows_section, symbol_section}
 use Rattle.framehop_check_cli.specs.declared.file.Opened.{Opened}

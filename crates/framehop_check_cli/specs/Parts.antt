@@ -3,11 +3,11 @@ use Rattle.std.specs.Prelude.{ℕ, ◌+◌, Bool, not, ◌&&◌, codes, List, []
 use Rattle.std.specs.Io.Iter.{u64_saturate}
 use Rattle.framehop_cfi.specs.declared.entry.UnwindSectionType.{UnwindSectionType}
 use Rattle.framehop_cfi.specs.declared.entry.UnwindSectionType.TheVariants.{EhFrame, DebugFrame}
-use Rattle.framehop_elf.specs.ElfFile.{ElfFile, section_called}
-use Rattle.framehop_elf.specs.Section.{contents_of}
-use Rattle.framehop_elf.specs.declared.error.ElfError.{ElfError}
-use Rattle.framehop_elf.specs.declared.section_header.SectionHeader.{SectionHeader}
-use Rattle.framehop_elf.specs.declared.symbol.Symbol.{Symbol}
+use Rattle.framehop_object.specs.Elf.ElfFile.{ElfFile, section_called}
+use Rattle.framehop_object.specs.Elf.Section.{contents_of}
+use Rattle.framehop_object.specs.declared.elf.error.ElfError.{ElfError}
+use Rattle.framehop_object.specs.declared.elf.section_header.SectionHeader.{SectionHeader}
+use Rattle.framehop_object.specs.declared.elf.symbol.Symbol.{Symbol}
 use Rattle.framehop_check.specs.declared.missing.Range.{Range}
 use Rattle.framehop_check.specs.declared.report.Counts.{Counts}
 use Rattle.framehop_check.specs.declared.sections.CodeSection.{CodeSection}

@@ -7,13 +7,13 @@ use Rattle.std.specs.Result.{result_ok}
 use Rattle.framehop_pe.specs.FunctionTable.{function_at}
 use Rattle.framehop_pe.specs.Info.{Header, Info, header_of, info_of}
 use Rattle.framehop_pe.specs.declared.unwind_info.function_table.RuntimeFunction.{RuntimeFunction}
-use Rattle.framehop_pe_file.specs.PeFile.{PeFile, pe_file_of}
-use Rattle.framehop_pe_file.specs.Rva.{bytes_at}
-use Rattle.framehop_pe_file.specs.UnwindSections.{unwind_sections_of}
-use Rattle.framehop_pe_file.specs.declared.error.PeError.{PeError}
-use Rattle.framehop_pe_file.specs.declared.error.PeError.TheVariants.{OutOfMemory}
-use Rattle.framehop_pe_file.specs.declared.header.Machine.{Machine}
-use Rattle.framehop_pe_file.specs.declared.header.Machine.TheVariants.{X86_64}
+use Rattle.framehop_object.specs.Pe.PeFile.{PeFile, pe_file_of}
+use Rattle.framehop_object.specs.Pe.Rva.{bytes_at}
+use Rattle.framehop_object.specs.Pe.UnwindSections.{unwind_sections_of}
+use Rattle.framehop_object.specs.declared.pe.error.PeError.{PeError}
+use Rattle.framehop_object.specs.declared.pe.error.PeError.TheVariants.{OutOfMemory}
+use Rattle.framehop_object.specs.declared.pe.header.Machine.{Machine}
+use Rattle.framehop_object.specs.declared.pe.header.Machine.TheVariants.{X86_64}
 use Rattle.framehop_check.specs.Check.{first_pass, alarms_from, notes_from}
 use Rattle.framehop_check.specs.Counts.{with_function}
 use Rattle.framehop_check.specs.Prolog.{prolog_items}

@@ -10,7 +10,7 @@ use framehop_check::sections::without_padding;
 use framehop_code::aarch64::CodeAarch64;
 use framehop_code::effect::Code;
 use framehop_code::x86_64::CodeX86_64;
-use framehop_elf::header::{EM_AARCH64, EM_X86_64};
+use framehop_object::elf::header::{EM_AARCH64, EM_X86_64};
 use std::alloc::{AllocError, Global};
 
 /// How many bytes of code a file has.

@@ -5,10 +5,10 @@ ghost use Rattle.framehop_check_cli.specs.Parts.{rows_section, symbol_section, r
 use framehop_cfi::entry::UnwindSectionType;
 use framehop_check::missing::Range;
 use framehop_check::sections::CodeSection;
-use framehop_elf::elf_file::ElfFile;
-use framehop_elf::section::{SHF_EXECINSTR, read_contents};
-use framehop_elf::section_header::SectionHeader;
-use framehop_elf::symbol::Symbol;
+use framehop_object::elf::elf_file::ElfFile;
+use framehop_object::elf::section::{SHF_EXECINSTR, read_contents};
+use framehop_object::elf::section_header::SectionHeader;
+use framehop_object::elf::symbol::Symbol;
 use std::alloc::{AllocError, Global};
 
 /// Returns the section that has the rows, `.eh_frame` or else `.debug_frame`, and its kind.

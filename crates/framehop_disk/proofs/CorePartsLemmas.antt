@@ -1,7 +1,7 @@
 -- The segments that are read apart of a core file are in the order of their addresses.
 use Rattle.std.proofs.Common.{ℕ, List, sym, subst}
 use Rattle.std.specs.List.Sorted.{IsNonDecreasingBy}
-use Rattle.framehop_elf.specs.declared.program_header.ProgramHeader.{ProgramHeader}
+use Rattle.framehop_object.specs.declared.elf.program_header.ProgramHeader.{ProgramHeader}
 use Rattle.framehop_disk.specs.declared.wanted.WantedSegment.{WantedSegment}
 use Rattle.framehop_disk.specs.CoreParts.{AreApart}
 use Rattle.framehop_disk.specs.Segments.{wanted_beside}

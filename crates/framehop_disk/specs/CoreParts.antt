@@ -2,11 +2,11 @@
 use Rattle.std.specs.Prelude.{ℕ, ◌≡◌, ◌+◌, ◌*◌, ◌⊎◌, Bool, true, false, nat_le, List, ◌++◌, length, map, max, Option, Some, None, Result, Ok, Err, IsPermutation, if◌then◌else◌}
 use Rattle.std.specs.List.{list_any}
 use Rattle.std.specs.List.Sorted.{IsNonDecreasingBy}
-use Rattle.framehop_elf.specs.Header.{file_header_of}
-use Rattle.framehop_elf.specs.Segment.{loaded_segments_of}
-use Rattle.framehop_elf.specs.declared.error.ElfError.{ElfError}
-use Rattle.framehop_elf.specs.declared.header.FileHeader.{FileHeader}
-use Rattle.framehop_elf.specs.declared.program_header.ProgramHeader.{ProgramHeader}
+use Rattle.framehop_object.specs.Elf.Header.{file_header_of}
+use Rattle.framehop_object.specs.Elf.Segment.{loaded_segments_of}
+use Rattle.framehop_object.specs.declared.elf.error.ElfError.{ElfError}
+use Rattle.framehop_object.specs.declared.elf.header.FileHeader.{FileHeader}
+use Rattle.framehop_object.specs.declared.elf.program_header.ProgramHeader.{ProgramHeader}
 use Rattle.framehop_dump_files.specs.Coredump.CoreFile.{core_file_of}
 use Rattle.framehop_dump_files.specs.declared.coredump.core_file.Machine.{Machine}
 use Rattle.framehop_dump_files.specs.declared.coredump.mapped_file.MappedFile.{MappedFile}

@@ -3,9 +3,9 @@ use Rattle.std.specs.Prelude.{ℕ, ◌+◌, ◌-◌, ◌*◌, ◌==◌, Bool, no
 use Rattle.std.specs.Int.{to_le_bytes, w64}
 use Rattle.std.specs.List.{starts_with}
 use Rattle.std.specs.declared.ops.Range.{Range}
-use Rattle.framehop_elf.specs.declared.header.FileHeader.{FileHeader}
-use Rattle.framehop_elf.specs.declared.section_header.SectionHeader.{SectionHeader}
-use Rattle.framehop_pe_file.specs.Header.{is_pe}
+use Rattle.framehop_object.specs.declared.elf.header.FileHeader.{FileHeader}
+use Rattle.framehop_object.specs.declared.elf.section_header.SectionHeader.{SectionHeader}
+use Rattle.framehop_object.specs.Pe.Header.{is_pe}
 use Rattle.framehop_disk.specs.declared.gaps.Gap.{Gap}
 use Rattle.framehop_disk.specs.Gaps.{begins_at, moved}
 use Rattle.framehop_disk.specs.Unasked.{is_inside}

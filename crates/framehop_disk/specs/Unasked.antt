@@ -2,9 +2,9 @@
 use Rattle.std.specs.Prelude.{ℕ, ◌≡◌, ◌==◌, ◌-◌, Bool, true, not, ◌&&◌, ◌||◌, nat_eq, nat_le, nat_lt, List, [], ◌∷◌, ◌++◌, drop, map, max, bit_and, codes, IsPermutation, if◌then◌else◌}
 use Rattle.std.specs.List.{filter, fold, list_all, starts_with}
 use Rattle.std.specs.declared.ops.Range.{Range}
-use Rattle.framehop_elf.specs.Numbers.{PF_X, PT_NOTE, SHF_EXECINSTR, SHT_NOBITS}
-use Rattle.framehop_elf.specs.declared.program_header.ProgramHeader.{ProgramHeader}
-use Rattle.framehop_elf.specs.declared.section_header.SectionHeader.{SectionHeader}
+use Rattle.framehop_object.specs.Elf.Numbers.{PF_X, PT_NOTE, SHF_EXECINSTR, SHT_NOBITS}
+use Rattle.framehop_object.specs.declared.elf.program_header.ProgramHeader.{ProgramHeader}
+use Rattle.framehop_object.specs.declared.elf.section_header.SectionHeader.{SectionHeader}
 use Rattle.framehop_disk.specs.declared.gaps.Gap.{Gap}
 use Rattle.framehop_disk.specs.Gaps.{are_apart, gaps_of, is_kept}
 use Rattle.framehop_disk.specs.Wanted.{sum_64}

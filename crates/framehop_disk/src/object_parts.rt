@@ -6,12 +6,12 @@ ghost use Rattle.framehop_disk.specs.ObjectParts.{front_size, headers_place, hea
 use crate::gaps::{Gap, Gaps};
 use crate::input::{read_at, read_front, read_sized, zeros};
 use crate::unasked::{end_of_code, gaps_in, is_inside};
-use framehop_elf::header::{FileHeader, HEADER_SIZE, read_file_header};
-use framehop_elf::program_header::{ENTRY_SIZE as PROGRAM_HEADER_SIZE, read_program_headers};
-use framehop_elf::section_header::{
+use framehop_object::elf::header::{FileHeader, HEADER_SIZE, read_file_header};
+use framehop_object::elf::program_header::{ENTRY_SIZE as PROGRAM_HEADER_SIZE, read_program_headers};
+use framehop_object::elf::section_header::{
     ENTRY_SIZE as SECTION_HEADER_SIZE, SectionHeader, read_section_headers,
 };
-use framehop_pe_file::header::is_pe;
+use framehop_object::pe::header::is_pe;
 use framehop_processes::object_file::build_id_of;
 use std::alloc::{AllocError, Global};
 use std::fs::File;

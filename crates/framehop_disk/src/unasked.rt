@@ -4,10 +4,10 @@ ghost use Rattle.framehop_disk.specs.Unasked.{IsOfParts, are_kept, end_of_code, 
 
 use crate::gaps::Gaps;
 use framehop_bytes::bytes::back;
-use framehop_elf::program_header::{PT_NOTE, ProgramHeader};
-use framehop_elf::section::{SHF_EXECINSTR, SHT_NOBITS};
-use framehop_elf::section_header::SectionHeader;
-use framehop_elf::segment::PF_X;
+use framehop_object::elf::program_header::{PT_NOTE, ProgramHeader};
+use framehop_object::elf::section::{SHF_EXECINSTR, SHT_NOBITS};
+use framehop_object::elf::section_header::SectionHeader;
+use framehop_object::elf::segment::PF_X;
 use std::alloc::{AllocError, Global};
 use std::ops::Range;
 

@@ -3,7 +3,7 @@ use Rattle.std.proofs.Common.{◌≡◌, ℕ, zero, suc, ◌+◌, ◌-◌, ◌<�
 use Rattle.std.specs.Prelude.{option_map, find}
 use Rattle.std.proofs.lemmas.Bool.{cases_Bool}
 use Rattle.framehop_bytes.specs.Bytes.{◌>>=◌}
-use Rattle.framehop_elf.specs.declared.program_header.ProgramHeader.{ProgramHeader}
+use Rattle.framehop_object.specs.declared.elf.program_header.ProgramHeader.{ProgramHeader}
 use Rattle.framehop_dump_files.specs.declared.coredump.error.CoreFileError.{CoreFileError}
 use Rattle.framehop_dump_files.specs.Coredump.Note.{PlacedView, placed_at, notes_after, notes_in, notes_size, notes_of_segment, notes_among}
 

@@ -10,13 +10,13 @@ use denote.Ref.{Bor}
 use Rattle.std.proofs.lemmas.Bool.{cases_Bool}
 use Rattle.std.proofs.lemmas.List.{take_more, map-append}
 use Rattle.std.proofs.lemmas.List.Folds.{find-append}
-use Rattle.framehop_elf.specs.declared.program_header.ProgramHeader.{ProgramHeader}
+use Rattle.framehop_object.specs.declared.elf.program_header.ProgramHeader.{ProgramHeader}
 use Rattle.framehop_processes.specs.MappedBytes.{contents_in}
 use Rattle.framehop_processes.specs.declared.files.NamedFile.{NamedFile}
 use Rattle.framehop_processes.specs.declared.mapped_bytes.MappedBytes.{MappedBytes}
 use Rattle.framehop_dumps.specs.Dump.{DumpView, MappedCodeView, mapped_code_view, is_of_path, head_among}
 use Rattle.framehop_dump_stacks.specs.FrameHeaders.{kept_for, first_header}
-use Rattle.framehop_elf.specs.Header.{file_header_of}
+use Rattle.framehop_object.specs.Elf.Header.{file_header_of}
 use Rattle.framehop_dumps.specs.Image.{CallFramesView, headers_in, segments_in, eh_frame_header, sections_of}
 use Rattle.framehop_dump_stacks.specs.Modules.{sections_by}
 use Rattle.framehop_dumps.specs.declared.dump.MappedCode.{MappedCode}

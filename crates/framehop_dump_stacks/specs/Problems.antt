@@ -3,9 +3,9 @@ use Rattle.std.specs.Prelude.{◌≡◌, ℕ, ◌+◌, ◌-◌, ◌^◌, nat_eq,
 use Rattle.std.specs.BTreeMap.{BTreeMap, get}
 use Rattle.std.specs.Fmt.{decimal}
 use Rattle.std.specs.Ordering.{nat_cmp}
-use Rattle.framehop_elf.specs.ErrorText.{elf_error_text}
+use Rattle.framehop_object.specs.Elf.ErrorText.{elf_error_text}
 use Rattle.framehop_memory.specs.declared.memory.MemoryRange.{MemoryRange}
-use Rattle.framehop_pe_file.specs.ErrorText.{pe_error_text}
+use Rattle.framehop_object.specs.Pe.ErrorText.{pe_error_text}
 use Rattle.framehop_processes.specs.declared.mapping.Mapping.{Mapping}
 use Rattle.framehop_processes.specs.Files.{number_in}
 use Rattle.framehop_processes.specs.Found.{has_names}

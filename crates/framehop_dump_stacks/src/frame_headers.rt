@@ -7,7 +7,7 @@ ghost use Rattle.framehop_dump_stacks.specs.FrameHeaders.{kept_for, first_header
 
 use framehop_dumps::dump::{Dump, MappedCode};
 use framehop_dumps::image::{eh_frame_header, segments_in};
-use framehop_elf::program_header::ProgramHeader;
+use framehop_object::elf::program_header::ProgramHeader;
 use std::alloc::{AllocError, Global};
 use std::collections::BTreeMap;
 

@@ -16,8 +16,8 @@ use Rattle.framehop_dump_files.specs.declared.coredump.core_file.Machine.{Machin
 use Rattle.framehop_dump_files.specs.declared.coredump.error.CoreFileError.{CoreFileError}
 use Rattle.framehop_dump_files.specs.declared.coredump.signal_info.SignalInfo.{SignalInfo}
 use Rattle.framehop_dump_files.specs.Coredump.Memory.{range_of}
-use Rattle.framehop_elf.specs.Segment.{loaded_segments_of}
-use Rattle.framehop_elf.specs.declared.program_header.ProgramHeader.{ProgramHeader}
+use Rattle.framehop_object.specs.Elf.Segment.{loaded_segments_of}
+use Rattle.framehop_object.specs.declared.elf.program_header.ProgramHeader.{ProgramHeader}
 use Rattle.framehop_memory.specs.Code.{has_address}
 use Rattle.framehop_memory.specs.Memory.{MemoryView}
 use Rattle.framehop_memory.specs.Segment.{base_of}

@@ -6,7 +6,7 @@ use Rattle.std.specs.Ordering.{nat_cmp}
 use denote.Ref.{Bor}
 use Rattle.std.specs.List.{find}
 use Rattle.framehop_dump_files.specs.Coredump.MappedFile.{MappedFileView}
-use Rattle.framehop_elf.specs.Segment.{loaded_segments_of}
+use Rattle.framehop_object.specs.Elf.Segment.{loaded_segments_of}
 use Rattle.framehop_memory.specs.Memory.{MemoryView}
 use Rattle.framehop_memory.specs.declared.segment.Segment.{Segment}
 use Rattle.framehop_dumps.specs.CoreDump.{is_beginning}

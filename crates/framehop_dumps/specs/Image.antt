@@ -9,11 +9,11 @@ use Rattle.framehop_bytes.specs.Bytes.{◌>>=◌}
 use Rattle.framehop_cfi.specs.Header.{layout_of}
 use Rattle.framehop_cfi.specs.Layout.{Layout}
 use Rattle.framehop_bytes.specs.declared.section.ExplicitModuleSectionInfo.{ExplicitModuleSectionInfo}
-use Rattle.framehop_elf.specs.BuildId.{build_id_of_file}
-use Rattle.framehop_elf.specs.Header.{file_header_of}
-use Rattle.framehop_elf.specs.ProgramHeader.{program_headers_of}
-use Rattle.framehop_elf.specs.declared.error.ElfError.{ElfError}
-use Rattle.framehop_elf.specs.declared.program_header.ProgramHeader.{ProgramHeader}
+use Rattle.framehop_object.specs.Elf.BuildId.{build_id_of_file}
+use Rattle.framehop_object.specs.Elf.Header.{file_header_of}
+use Rattle.framehop_object.specs.Elf.ProgramHeader.{program_headers_of}
+use Rattle.framehop_object.specs.declared.elf.error.ElfError.{ElfError}
+use Rattle.framehop_object.specs.declared.elf.program_header.ProgramHeader.{ProgramHeader}
 use Rattle.framehop_memory.specs.Memory.{MemoryView, bytes_of, bytes_after}
 use Rattle.framehop_dumps.specs.declared.image.CallFrames.{CallFrames}
 

@@ -7,7 +7,7 @@ use Rattle.std.specs.Str.{str_eq_ignore_ascii_case}
 use Rattle.framehop_bytes.specs.Bytes.{◌>>=◌}
 use Rattle.framehop_dump_files.specs.declared.coredump.core_file.Machine.{Machine}
 use Rattle.framehop_dump_files.specs.declared.coredump.core_file.Machine.TheVariants as dumped
-use Rattle.framehop_elf.specs.Segment.{loaded_segments_of}
+use Rattle.framehop_object.specs.Elf.Segment.{loaded_segments_of}
 use Rattle.framehop_dump_files.specs.Minidump.CodeView.{CodeViewView, of_pdb, of_elf, codeview_of}
 use Rattle.framehop_dump_files.specs.Minidump.Exception.{exception_of, context_of}
 use Rattle.framehop_dump_files.specs.Minidump.Location.{located}

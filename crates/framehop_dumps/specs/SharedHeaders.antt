@@ -6,8 +6,8 @@ use Rattle.std.specs.List.{sum_by}
 use Rattle.framehop_dump_files.specs.Coredump.MappedFile.{MappedFileView}
 use Rattle.framehop_dump_files.specs.declared.coredump.error.CoreFileError.{CoreFileError}
 use Rattle.framehop_dump_files.specs.declared.coredump.error.CoreFileError.TheVariants.{SharedHeaders}
-use Rattle.framehop_elf.specs.BuildId.{notes_of_segment}
-use Rattle.framehop_elf.specs.declared.program_header.ProgramHeader.{ProgramHeader}
+use Rattle.framehop_object.specs.Elf.BuildId.{notes_of_segment}
+use Rattle.framehop_object.specs.declared.elf.program_header.ProgramHeader.{ProgramHeader}
 use Rattle.framehop_memory.specs.Memory.{MemoryView}
 use Rattle.framehop_dumps.specs.Image.{head_at, segments_in}
 

@@ -10,7 +10,7 @@ ghost use Rattle.framehop_dumps.specs.Dump.{thread_view, mapped_code_view, dump_
 ghost use Rattle.framehop_memory.specs.Memory.{memory_view};
 ghost use Rattle.framehop_dumps.specs.Image.{segments_in};
 ghost use Rattle.framehop_dumps.specs.Minidump.{each, each_within, names_limit, machine_of, cause_of, last_address, mask_up_to, thread_in, loaded_view, loaded_size, loaded_if, build_id_by, loaded_in, named_in, parts_view, parts_of, separator, file_name, program_name, is_wow64, has_wow64, dumped_threads_of, dump_in, object_segments, or_else, base_by_name, whole, all_regions_of, segment_code, code_by, code_in, code_of, AreModuleFiles, dump_with};
-ghost use Rattle.framehop_elf.specs.Segment.{loaded_segments_of};
+ghost use Rattle.framehop_object.specs.Elf.Segment.{loaded_segments_of};
 ghost use Rattle.framehop_dump_files.specs.Minidump.CodeView.{codeview_view};
 ghost use Rattle.framehop_dump_files.specs.declared.minidump.error.MinidumpError.{MinidumpError};
 ghost use Rattle.framehop_processes.specs.Files.{is_unix_path, IsAdded};
@@ -23,7 +23,7 @@ use crate::order::crashed_first;
 use crate::shared_headers::check_modules;
 use crate::thread_names::{NamedThread, ThreadNames};
 use framehop_dump_files::coredump::core_file::Machine;
-use framehop_elf::segment::loaded_segments;
+use framehop_object::elf::segment::loaded_segments;
 use framehop_memory::code::CodeSegments;
 use framehop_memory::memory::ProcessMemory;
 use framehop_memory::segment::{Segment, base_avma, base_from};

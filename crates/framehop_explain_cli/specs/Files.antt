@@ -2,19 +2,19 @@
 use Rattle.std.specs.Prelude.{◌≡◌, ℕ, ◌-◌, ◌^◌, ◌==◌, ◌&&◌, not, Bool, true, MatchBool, nat_eq, if◌then◌else◌, List, [], codes, Option, Some, None, Result, Ok, Err}
 use Rattle.framehop_bytes.specs.Bytes.{◌>>=◌}
 use Rattle.framehop_bytes.specs.ExplicitSections.{table_of}
-use Rattle.framehop_elf.specs.ElfFile.{ElfFile, elf_file_of}
-use Rattle.framehop_elf.specs.UnwindSections.{has_eh_frame, debug_frame_of, unwind_sections_of}
-use Rattle.framehop_elf.specs.declared.decompressed.ContentsError.{ContentsError}
-use Rattle.framehop_elf.specs.declared.decompressed.ContentsError.TheVariants.{OutOfMemory as NoMemoryForContents}
-use Rattle.framehop_elf.specs.declared.error.ElfError.{ElfError}
-use Rattle.framehop_elf.specs.declared.error.ElfError.TheVariants.{OutOfMemory as NoMemoryForElf}
-use Rattle.framehop_pe_file.specs.Header.{is_pe}
-use Rattle.framehop_pe_file.specs.PeFile.{pe_file_of}
-use Rattle.framehop_pe_file.specs.UnwindSections.{unwind_sections_of as pe_sections_of, table_of as pe_table_of}
-use Rattle.framehop_pe_file.specs.declared.error.PeError.{PeError}
-use Rattle.framehop_pe_file.specs.declared.error.PeError.TheVariants.{OutOfMemory as NoMemoryForPe}
-use Rattle.framehop_pe_file.specs.declared.header.Machine.{Machine}
-use Rattle.framehop_pe_file.specs.declared.header.Machine.TheVariants.{X86_64, Aarch64, Other}
+use Rattle.framehop_object.specs.Elf.ElfFile.{ElfFile, elf_file_of}
+use Rattle.framehop_object.specs.Elf.UnwindSections.{has_eh_frame, debug_frame_of, unwind_sections_of}
+use Rattle.framehop_object.specs.declared.elf.decompressed.ContentsError.{ContentsError}
+use Rattle.framehop_object.specs.declared.elf.decompressed.ContentsError.TheVariants.{OutOfMemory as NoMemoryForContents}
+use Rattle.framehop_object.specs.declared.elf.error.ElfError.{ElfError}
+use Rattle.framehop_object.specs.declared.elf.error.ElfError.TheVariants.{OutOfMemory as NoMemoryForElf}
+use Rattle.framehop_object.specs.Pe.Header.{is_pe}
+use Rattle.framehop_object.specs.Pe.PeFile.{pe_file_of}
+use Rattle.framehop_object.specs.Pe.UnwindSections.{unwind_sections_of as pe_sections_of, table_of as pe_table_of}
+use Rattle.framehop_object.specs.declared.pe.error.PeError.{PeError}
+use Rattle.framehop_object.specs.declared.pe.error.PeError.TheVariants.{OutOfMemory as NoMemoryForPe}
+use Rattle.framehop_object.specs.declared.pe.header.Machine.{Machine}
+use Rattle.framehop_object.specs.declared.pe.header.Machine.TheVariants.{X86_64, Aarch64, Other}
 use Rattle.framehop_core.specs.Aarch64.Registers.{Registers as RegistersAarch64}
 use Rattle.framehop.specs.ModuleData.{unwind_data_in}
 use Rattle.framehop.specs.Modules.{UnwindData}

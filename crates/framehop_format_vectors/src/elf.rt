@@ -3,16 +3,16 @@
 use crate::changed::changed;
 use framehop_bytes::section::ExplicitModuleSectionInfo;
 use framehop_bytes::string::string_at;
-use framehop_elf::build_id::read_build_id;
-use framehop_elf::elf_file::ElfFile;
-use framehop_elf::error::ElfError;
-use framehop_elf::header::{FileHeader, read_file_header};
-use framehop_elf::program_header::{ProgramHeader, read_program_headers};
-use framehop_elf::section::{read_contents, read_section_names};
-use framehop_elf::section_header::{SectionHeader, read_section_headers};
-use framehop_elf::segment::loaded_segments;
-use framehop_elf::symbol::{SymbolTable, read_function_symbols, read_symbol_names};
-use framehop_elf::unwind_sections::read_unwind_sections;
+use framehop_object::elf::build_id::read_build_id;
+use framehop_object::elf::elf_file::ElfFile;
+use framehop_object::elf::error::ElfError;
+use framehop_object::elf::header::{FileHeader, read_file_header};
+use framehop_object::elf::program_header::{ProgramHeader, read_program_headers};
+use framehop_object::elf::section::{read_contents, read_section_names};
+use framehop_object::elf::section_header::{SectionHeader, read_section_headers};
+use framehop_object::elf::segment::loaded_segments;
+use framehop_object::elf::symbol::{SymbolTable, read_function_symbols, read_symbol_names};
+use framehop_object::elf::unwind_sections::read_unwind_sections;
 use framehop_memory::segment::Segment;
 use std::alloc::{AllocError, Global};
 

@@ -1,9 +1,9 @@
 -- What is said of files: of which nothing was read, and of which something was not.
 use Rattle.std.specs.Prelude.{◌≡◌, ℕ, List, [], ◌∷◌, ◌++◌, codes, decimal, Option, Some, None, ◌==◌, if◌then◌else◌}
-use Rattle.framehop_elf.specs.ErrorText.{elf_error_text}
-use Rattle.framehop_elf.specs.declared.decompressed.ContentsError.{ContentsError}
+use Rattle.framehop_object.specs.Elf.ErrorText.{elf_error_text}
+use Rattle.framehop_object.specs.declared.elf.decompressed.ContentsError.{ContentsError}
 use Rattle.framehop_frames.specs.Line.{plain}
-use Rattle.framehop_pe_file.specs.ErrorText.{pe_error_text}
+use Rattle.framehop_object.specs.Pe.ErrorText.{pe_error_text}
 use Rattle.framehop_processes.specs.FramesText.{IsFramesText}
 use Rattle.framehop_processes.specs.ReadRefusal.{refusal_text}
 use Rattle.framehop_processes.specs.declared.code_map.CodeMap.{CodeMap}

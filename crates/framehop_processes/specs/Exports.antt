@@ -3,13 +3,13 @@
 -- leaf function is not in it.
 use Rattle.std.specs.Prelude.{ℕ, ◌+◌, ◌-◌, nat_lt, List, [], map, Option, Some, None, option_and_then, unwrap_or, slice_get, if◌then◌else◌}
 use Rattle.framehop_bytes.specs.Place.{place_of}
-use Rattle.framehop_elf.specs.declared.symbol.Symbol.{Symbol}
+use Rattle.framehop_object.specs.declared.elf.symbol.Symbol.{Symbol}
 use Rattle.framehop_pe.specs.FunctionTable.{starts_of, function_of}
 use Rattle.framehop_pe.specs.declared.unwind_info.function_table.RuntimeFunction.{RuntimeFunction}
-use Rattle.framehop_pe_file.specs.Exports.{exports_in}
-use Rattle.framehop_pe_file.specs.declared.exports.Export.{Export}
-use Rattle.framehop_pe_file.specs.declared.header.DataDirectory.{DataDirectory}
-use Rattle.framehop_pe_file.specs.declared.header.FileHeader.{FileHeader}
+use Rattle.framehop_object.specs.Pe.Exports.{exports_in}
+use Rattle.framehop_object.specs.declared.pe.exports.Export.{Export}
+use Rattle.framehop_object.specs.declared.pe.header.DataDirectory.{DataDirectory}
+use Rattle.framehop_object.specs.declared.pe.header.FileHeader.{FileHeader}
 
 -- of starts in order, the one that comes after an address: the one at its place where that is above it, else the next
 abbrev pub start_above_or : List ℕ → ℕ → ℕ → ℕ → Option ℕ

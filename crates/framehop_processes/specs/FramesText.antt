@@ -1,8 +1,8 @@
 -- What is said of a file whose `.debug_frame` is not read.
 use Rattle.std.specs.Prelude.{◌≡◌, ℕ, List, [], ◌++◌, codes, decimal, Option, Some, None}
-use Rattle.framehop_elf.specs.ErrorText.{contents_error_text}
-use Rattle.framehop_elf.specs.declared.decompressed.ContentsError.{ContentsError}
-use Rattle.framehop_elf.specs.declared.decompressed.ContentsError.TheVariants.{Elf, NoHeader, Zstandard, OlderForm, UnknownType, TooLarge, Inflate, OutOfMemory}
+use Rattle.framehop_object.specs.Elf.ErrorText.{contents_error_text}
+use Rattle.framehop_object.specs.declared.elf.decompressed.ContentsError.{ContentsError}
+use Rattle.framehop_object.specs.declared.elf.decompressed.ContentsError.TheVariants.{Elf, NoHeader, Zstandard, OlderForm, UnknownType, TooLarge, Inflate, OutOfMemory}
 
 -- a reader's reason, as it prints itself
 abbrev pub IsReason : ContentsError → List ℕ → Type 0

@@ -9,31 +9,31 @@ use Rattle.std.specs.Result.{result_ok, result_err}
 use Rattle.framehop_bytes.specs.Bytes.{◌>>=◌}
 use Rattle.framehop_bytes.specs.ExplicitSections.{table_of}
 use Rattle.framehop_bytes.specs.declared.section.ExplicitModuleSectionInfo.{ExplicitModuleSectionInfo}
-use Rattle.framehop_elf.specs.BuildId.{build_id_of_file}
-use Rattle.framehop_elf.specs.Header.{file_header_of}
-use Rattle.framehop_elf.specs.ProgramHeader.{program_headers_of}
-use Rattle.framehop_elf.specs.Segment.{loaded_segments_of}
-use Rattle.framehop_elf.specs.ElfFile.{ElfFile, elf_file_with, section_called}
-use Rattle.framehop_elf.specs.Section.{contents_of as contents_in}
+use Rattle.framehop_object.specs.Elf.BuildId.{build_id_of_file}
+use Rattle.framehop_object.specs.Elf.Header.{file_header_of}
+use Rattle.framehop_object.specs.Elf.ProgramHeader.{program_headers_of}
+use Rattle.framehop_object.specs.Elf.Segment.{loaded_segments_of}
+use Rattle.framehop_object.specs.Elf.ElfFile.{ElfFile, elf_file_with, section_called}
+use Rattle.framehop_object.specs.Elf.Section.{contents_of as contents_in}
 use Rattle.framehop_bytes.specs.String.{before_nul}
-use Rattle.framehop_elf.specs.Symbol.{start_of, function_symbols_of, labels_of, symbol_names_of}
-use Rattle.framehop_elf.specs.UnwindSections.{unwind_sections_of, debug_frame_of, bytes_or_none, has_eh_frame, debug_frame_sections_of}
-use Rattle.framehop_elf.specs.declared.decompressed.ContentsError.{ContentsError}
-use Rattle.framehop_elf.specs.declared.error.ElfError.{ElfError}
-use Rattle.framehop_elf.specs.declared.program_header.ProgramHeader.{ProgramHeader}
-use Rattle.framehop_elf.specs.declared.section_header.SectionHeader.{SectionHeader}
-use Rattle.framehop_elf.specs.declared.symbol.Symbol.{Symbol}
-use Rattle.framehop_elf.specs.declared.error.ElfError.TheVariants.{OutOfMemory as ElfOutOfMemory}
+use Rattle.framehop_object.specs.Elf.Symbol.{start_of, function_symbols_of, labels_of, symbol_names_of}
+use Rattle.framehop_object.specs.Elf.UnwindSections.{unwind_sections_of, debug_frame_of, bytes_or_none, has_eh_frame, debug_frame_sections_of}
+use Rattle.framehop_object.specs.declared.elf.decompressed.ContentsError.{ContentsError}
+use Rattle.framehop_object.specs.declared.elf.error.ElfError.{ElfError}
+use Rattle.framehop_object.specs.declared.elf.program_header.ProgramHeader.{ProgramHeader}
+use Rattle.framehop_object.specs.declared.elf.section_header.SectionHeader.{SectionHeader}
+use Rattle.framehop_object.specs.declared.elf.symbol.Symbol.{Symbol}
+use Rattle.framehop_object.specs.declared.elf.error.ElfError.TheVariants.{OutOfMemory as ElfOutOfMemory}
 use Rattle.framehop_memory.specs.declared.segment.Segment.{Segment}
-use Rattle.framehop_pe_file.specs.CodeView.{RsdsView, rsds_of}
-use Rattle.framehop_pe_file.specs.Exports.{directory_bytes_of}
-use Rattle.framehop_pe_file.specs.Header.{is_pe}
-use Rattle.framehop_pe_file.specs.PeFile.{PeFile, pe_file_of}
-use Rattle.framehop_pe_file.specs.UnwindSections.{table_of as pe_table_of, unwind_sections_of as pe_unwind_sections_of}
-use Rattle.framehop_pe_file.specs.declared.error.PeError.{PeError}
-use Rattle.framehop_pe_file.specs.declared.error.PeError.TheVariants.{OutOfMemory as PeOutOfMemory}
-use Rattle.framehop_pe_file.specs.declared.header.FileHeader.{FileHeader}
-use Rattle.framehop_pe_file.specs.declared.section_header.SectionHeader.{SectionHeader as PeSectionHeader}
+use Rattle.framehop_object.specs.Pe.CodeView.{RsdsView, rsds_of}
+use Rattle.framehop_object.specs.Pe.Exports.{directory_bytes_of}
+use Rattle.framehop_object.specs.Pe.Header.{is_pe}
+use Rattle.framehop_object.specs.Pe.PeFile.{PeFile, pe_file_of}
+use Rattle.framehop_object.specs.Pe.UnwindSections.{table_of as pe_table_of, unwind_sections_of as pe_unwind_sections_of}
+use Rattle.framehop_object.specs.declared.pe.error.PeError.{PeError}
+use Rattle.framehop_object.specs.declared.pe.error.PeError.TheVariants.{OutOfMemory as PeOutOfMemory}
+use Rattle.framehop_object.specs.declared.pe.header.FileHeader.{FileHeader}
+use Rattle.framehop_object.specs.declared.pe.section_header.SectionHeader.{SectionHeader as PeSectionHeader}
 use Rattle.framehop.specs.Modules.{ModuleView}
 use Rattle.framehop.specs.ModuleData.{unwind_data_in}
 use Rattle.framehop_processes.specs.Exports.{symbols_of as exported_symbols_of}

@@ -2,8 +2,8 @@
 use Rattle.std.specs.Prelude.{ℕ, ◌-◌, ◌^◌, List, [], ◌∷◌, ◌&&◌, nat_le, nat_lt, Bool, true, false, if◌then◌else◌, Option, Some, None, option_and_then, slice_get}
 use Rattle.std.specs.List.{find}
 use Rattle.framehop_bytes.specs.String.{string_of}
-use Rattle.framehop_elf.specs.Symbol.{nearest_of, symbol_for}
-use Rattle.framehop_elf.specs.declared.symbol.Symbol.{Symbol}
+use Rattle.framehop_object.specs.Elf.Symbol.{nearest_of, symbol_for}
+use Rattle.framehop_object.specs.declared.elf.symbol.Symbol.{Symbol}
 use Rattle.framehop_processes.specs.declared.mapping.Mapping.{Mapping}
 use Rattle.framehop_processes.specs.CodeMap.{code_name_at}
 use Rattle.framehop_processes.specs.FunctionStart.{function_start_in}

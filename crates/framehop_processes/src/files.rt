@@ -1,8 +1,8 @@
 //! The files that processes map by their numbers, and the modules of their mappings.
 ghost use Rattle.std.specs.Prelude.{◌≡◌, ◌⊎◌, ◌<◌, ℕ, List, [], length, true, false, is_some, Option, Some, None, Ok, IsSome, IfOk, IfErr, OnOk, option_map, option_copied, slice_get, MatchOption};
 ghost use Rattle.framehop.specs.Modules.{ModuleView};
-ghost use Rattle.framehop_elf.specs.UnwindSections.{bytes_in};
-ghost use Rattle.framehop_elf.specs.declared.error.ElfError.{ElfError};
+ghost use Rattle.framehop_object.specs.Elf.UnwindSections.{bytes_in};
+ghost use Rattle.framehop_object.specs.declared.elf.error.ElfError.{ElfError};
 ghost use Rattle.framehop_processes.specs.ObjectFiles.{Listed, problem_of, IsOutOfMemory, IsKeptOf};
 ghost use Rattle.framehop_processes.specs.Files.{number_in, object_in, module_at, placed_at, is_unix_path, has_drive, is_windows_path, is_path, is_vdso, is_read, is_deleted, path_of, is_asked, told_of, given_bytes, IsGiven, IsNamed, IsRefused, IsCopied, IsNotCopied, IsKept, AreDebugTables, IsFileOf, IsNextFile, IsNext, IsNextMap, IsAdded, IsMapAdded, IsWithoutFiles, IsLeftOut, IsNextLeftOut, IsAddedLeftOut, IsRead, file_called, is_left_out, map_number_in};
 ghost use Rattle.framehop_processes.specs.Source.{SourceView};

@@ -2,7 +2,7 @@
 ghost use Rattle.std.specs.Prelude.{IfOk, string_bytes};
 ghost use Rattle.framehop_processes.specs.FramesText.{IsFramesText, IsProblemText, IsReason};
 
-use framehop_elf::decompressed::ContentsError;
+use framehop_object::elf::decompressed::ContentsError;
 use std::alloc::{AllocError, Global};
 
 /// Returns what is said of a file, after its name, by why its `.debug_frame` is not read: nothing where there is no

@@ -3,12 +3,12 @@
 ghost use Rattle.std.specs.Prelude.{◌≡◌, ℕ};
 ghost use Rattle.std.specs.Global.{Global};
 ghost use Rattle.std.specs.declared.vec.Vec.{Vec};
-ghost use Rattle.framehop_elf.specs.UnwindSections.{bytes_in, sections_view};
-ghost use Rattle.framehop_pe_file.specs.UnwindSections.{sections_view as pe_sections_view};
+ghost use Rattle.framehop_object.specs.Elf.UnwindSections.{bytes_in, sections_view};
+ghost use Rattle.framehop_object.specs.Pe.UnwindSections.{sections_view as pe_sections_view};
 ghost use Rattle.framehop_processes.specs.MappedBytes.{contents_of, contents_in, mapped_sections_view};
 
 use framehop_bytes::section::{ExplicitModuleSectionInfo, SectionBytes};
-use framehop_pe_file::unwind_sections::PeUnwindSections;
+use framehop_object::pe::unwind_sections::PeUnwindSections;
 
 /// The bytes of a section of a mapped file.
 #[derive(Drop)]

@@ -4,8 +4,8 @@
 //! address: the modules of all mappings of the file share its unwind data.
 ghost use Rattle.std.specs.Prelude.{◌≡◌, ◌⊎◌, ◌↔◌, IsTrue, ℕ, List, [], ◌++◌, Some, None, Ok, Err, IfOk, IfErr, OnOk, MatchResult, option_map, option_to_list};
 ghost use Rattle.std.specs.Result.{result_err};
-ghost use Rattle.framehop_elf.specs.UnwindSections.{bytes_in, bytes_or_none, debug_frame_of};
-ghost use Rattle.framehop_elf.specs.declared.error.ElfError.{ElfError};
+ghost use Rattle.framehop_object.specs.Elf.UnwindSections.{bytes_in, bytes_or_none, debug_frame_of};
+ghost use Rattle.framehop_object.specs.declared.elf.error.ElfError.{ElfError};
 ghost use Rattle.framehop_memory.specs.Segment.{base_of};
 ghost use Rattle.framehop_processes.specs.ObjectFiles.{Contents, Listed, headers_view, headers_of, build_id_in, build_id_by, debug_link_in, contents_of, is_another, is_another_file, problem_by, problem_of, is_at_entry, symbols_in, symbols_called, listed, listed_of, tables_of, debug_tables_of, IsTable, AreTables, module_of, module_with, module_in, debug_frame_with, debug_frame_in, bare_module, export_tables_of, elf_contents_of, pe_contents_of, IsOutOfMemory, IsKeptWith, IsKeptOf};
 ghost use Rattle.framehop_processes.specs.Code.{code_of_object};
@@ -26,25 +26,25 @@ use crate::read_refusal::ReadRefusal;
 use framehop::Module;
 use framehop::section::ExplicitModuleSectionInfo;
 use framehop_bytes::string::{before_nul, string_at};
-use framehop_elf::build_id::read_build_id;
-use framehop_elf::decompressed::ContentsError;
-use framehop_elf::elf_file::ElfFile;
-use framehop_elf::error::ElfError;
-use framehop_elf::header::read_file_header;
-use framehop_elf::program_header::{ProgramHeader, read_program_headers};
-use framehop_elf::section_header::SectionHeader;
-use framehop_elf::segment::loaded_segments;
-use framehop_elf::symbol::{
+use framehop_object::elf::build_id::read_build_id;
+use framehop_object::elf::decompressed::ContentsError;
+use framehop_object::elf::elf_file::ElfFile;
+use framehop_object::elf::error::ElfError;
+use framehop_object::elf::header::read_file_header;
+use framehop_object::elf::program_header::{ProgramHeader, read_program_headers};
+use framehop_object::elf::section_header::SectionHeader;
+use framehop_object::elf::segment::loaded_segments;
+use framehop_object::elf::symbol::{
     Symbol, SymbolTable, read_function_symbols, read_labels, read_symbol_names,
 };
-use framehop_elf::unwind_sections::{
+use framehop_object::elf::unwind_sections::{
     debug_frame_sections, has_eh_frame, read_debug_frame, unwind_sections_with,
 };
 use framehop_memory::segment::{Segment, base_avma};
-use framehop_pe_file::error::PeError;
-use framehop_pe_file::exports::read_export_directory;
-use framehop_pe_file::header::is_pe;
-use framehop_pe_file::pe_file::PeFile;
+use framehop_object::pe::error::PeError;
+use framehop_object::pe::exports::read_export_directory;
+use framehop_object::pe::header::is_pe;
+use framehop_object::pe::pe_file::PeFile;
 use std::alloc::{AllocError, Global};
 use thiserror::Error;
 
@@ -164,7 +164,7 @@ impl From<PeError> for FileProblem {
 }
 
 impl From<AllocError> for FileProblem {
-    ghost use Rattle.framehop_elf.specs.declared.error.ElfError.TheVariants.{OutOfMemory};
+    ghost use Rattle.framehop_object.specs.declared.elf.error.ElfError.TheVariants.{OutOfMemory};
     ghost use Rattle.framehop_processes.specs.declared.object_file.FileProblem.TheVariants.{Elf};
 
     ghost from_gives = { λ value error. error ≡ Elf OutOfMemory };

@@ -5,11 +5,11 @@ ghost use Rattle.framehop_processes.specs.ObjectFiles.{segment_of, identity_by, 
 use crate::mapped_bytes::{MappedBytes, kept_pe_sections};
 use framehop::Module;
 use framehop_memory::segment::Segment;
-use framehop_pe_file::codeview::read_rsds;
-use framehop_pe_file::error::PeError;
-use framehop_pe_file::pe_file::PeFile;
-use framehop_pe_file::section_header::SectionHeader;
-use framehop_pe_file::unwind_sections::{lend_unwind_sections, read_unwind_sections};
+use framehop_object::pe::codeview::read_rsds;
+use framehop_object::pe::error::PeError;
+use framehop_object::pe::pe_file::PeFile;
+use framehop_object::pe::section_header::SectionHeader;
+use framehop_object::pe::unwind_sections::{lend_unwind_sections, read_unwind_sections};
 use std::alloc::{AllocError, Global};
 
 /// `IMAGE_SCN_MEM_EXECUTE`: the section may be executed.

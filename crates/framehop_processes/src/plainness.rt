@@ -4,7 +4,7 @@ ghost use Rattle.framehop_processes.specs.ObjectFiles.{is_internal, has_version,
 
 use framehop_bytes::bytes::{back, front};
 use framehop_bytes::string::before_nul;
-use framehop_elf::symbol::Symbol;
+use framehop_object::elf::symbol::Symbol;
 use std::alloc::{AllocError, Global};
 
 /// How many bytes of a symbol's name are looked at to choose among those of one function.

@@ -2,8 +2,8 @@
 use crate::small::SMALL;
 use framehop::x86_64::{CacheX86_64, UnwindRegsX86_64, UnwinderX86_64};
 use framehop::{Error, Generations, Module, Unwinder};
-use framehop_elf::elf_file::ElfFile;
-use framehop_elf::unwind_sections::read_unwind_sections;
+use framehop_object::elf::elf_file::ElfFile;
+use framehop_object::elf::unwind_sections::read_unwind_sections;
 use std::alloc::Global;
 use std::test::Fail;
 

@@ -2,10 +2,10 @@
 -- The fields are e_type and e_machine.
 use Rattle.std.specs.Prelude.{ℕ, List, not, Result, Ok, Err, ◌==◌, if◌then◌else◌}
 use Rattle.framehop_bytes.specs.Bytes.{◌>>=◌}
-use Rattle.framehop_elf.specs.Header.{file_header_of}
-use Rattle.framehop_elf.specs.ProgramHeader.{program_headers_of}
-use Rattle.framehop_elf.specs.declared.header.FileHeader.{FileHeader}
-use Rattle.framehop_elf.specs.declared.program_header.ProgramHeader.{ProgramHeader}
+use Rattle.framehop_object.specs.Elf.Header.{file_header_of}
+use Rattle.framehop_object.specs.Elf.ProgramHeader.{program_headers_of}
+use Rattle.framehop_object.specs.declared.elf.header.FileHeader.{FileHeader}
+use Rattle.framehop_object.specs.declared.elf.program_header.ProgramHeader.{ProgramHeader}
 use Rattle.framehop_dump_files.specs.Coredump.Numbers.{ET_CORE, EM_X86_64, EM_AARCH64}
 use Rattle.framehop_dump_files.specs.Coredump.Refusal.{from_elf}
 use Rattle.framehop_dump_files.specs.declared.coredump.core_file.Machine.{Machine}

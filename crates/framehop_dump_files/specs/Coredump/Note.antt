@@ -2,10 +2,10 @@
 use Rattle.std.specs.Prelude.{ℕ, zero, suc, ◌+◌, ◌-◌, List, [], ◌∷◌, ◌++◌, length, Bool, Option, Some, None, nat_eq, nat_lt, ◌&&◌, ◌==◌, Result, Ok, Err, if◌then◌else◌}
 use Rattle.std.specs.Cmp.Lexicographic.{pointwise}
 use Rattle.framehop_bytes.specs.Bytes.{◌>>=◌}
-use Rattle.framehop_elf.specs.Numbers.{PT_NOTE}
-use Rattle.framehop_elf.specs.Block.{block_at}
-use Rattle.framehop_elf.specs.Note.{NoteView, note_view, note_at}
-use Rattle.framehop_elf.specs.declared.program_header.ProgramHeader.{ProgramHeader}
+use Rattle.framehop_object.specs.Elf.Numbers.{PT_NOTE}
+use Rattle.framehop_object.specs.Elf.Block.{block_at}
+use Rattle.framehop_object.specs.Elf.Note.{NoteView, note_view, note_at}
+use Rattle.framehop_object.specs.declared.elf.program_header.ProgramHeader.{ProgramHeader}
 use Rattle.framehop_dump_files.specs.Coredump.Refusal.{from_elf}
 use Rattle.framehop_dump_files.specs.declared.coredump.error.CoreFileError.{CoreFileError}
 use Rattle.framehop_dump_files.specs.declared.coredump.error.CoreFileError.TheVariants.{NoteBeyondSegment, SharedNotes}

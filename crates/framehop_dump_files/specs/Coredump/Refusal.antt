@@ -1,7 +1,7 @@
 -- Why a core file is refused, and which refusal comes first.
 use Rattle.std.specs.Prelude.{◌≡◌, Result, Ok, Err}
-use Rattle.framehop_elf.specs.declared.error.ElfError.{ElfError}
-use Rattle.framehop_elf.specs.declared.error.ElfError.TheVariants as elf
+use Rattle.framehop_object.specs.declared.elf.error.ElfError.{ElfError}
+use Rattle.framehop_object.specs.declared.elf.error.ElfError.TheVariants as elf
 use Rattle.framehop_dump_files.specs.declared.coredump.error.CoreFileError.{CoreFileError}
 use Rattle.framehop_dump_files.specs.declared.coredump.error.CoreFileError.TheVariants.{Elf, OutOfMemory}
 

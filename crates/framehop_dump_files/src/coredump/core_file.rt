@@ -4,8 +4,8 @@ ghost use Rattle.framehop_dump_files.specs.Coredump.Refusal.{IsErrorOf};
 ghost use Rattle.framehop_dump_files.specs.Coredump.CoreFile.{machine_of, core_file_of};
 
 use crate::coredump::error::CoreFileError;
-use framehop_elf::header::{EM_AARCH64, EM_X86_64, FileHeader, read_file_header};
-use framehop_elf::program_header::{ProgramHeader, read_program_headers};
+use framehop_object::elf::header::{EM_AARCH64, EM_X86_64, FileHeader, read_file_header};
+use framehop_object::elf::program_header::{ProgramHeader, read_program_headers};
 use std::alloc::Global;
 
 /// `ET_CORE`.

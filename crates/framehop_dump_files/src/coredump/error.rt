@@ -1,7 +1,7 @@
 //! Why a core file can't be read.
 ghost use Rattle.std.specs.Prelude.{◌≡◌};
 
-use framehop_elf::error::ElfError;
+use framehop_object::elf::error::ElfError;
 use std::alloc::AllocError;
 use thiserror::Error;
 

@@ -8,9 +8,9 @@ ghost use Rattle.framehop_dump_files.specs.Coredump.Note.{placed_view, is_of, pl
 use crate::coredump::error::CoreFileError;
 use framehop_bytes::bytes::back;
 use framehop_bytes::gathered::pushed;
-use framehop_elf::note::{ElfNote, read_note};
-use framehop_elf::program_header::{PT_NOTE, ProgramHeader};
-use framehop_elf::segment::read_segment;
+use framehop_object::elf::note::{ElfNote, read_note};
+use framehop_object::elf::program_header::{PT_NOTE, ProgramHeader};
+use framehop_object::elf::segment::read_segment;
 use std::alloc::Global;
 
 /// A note of a core file, and where it is.

@@ -1,5 +1,5 @@
 use Rattle.std.proofs.Common.{rules, ◌≡◌, IfOk, ap, subst}
-use Rattle.framehop_elf.specs.UnwindSections.{debug_frame_sections_of, bytes_in}
+use Rattle.framehop_object.specs.Elf.UnwindSections.{debug_frame_sections_of, bytes_in}
 use Rattle.framehop_processes.specs.MappedBytes.{mapped_sections_view}
 use Rattle.framehop_processes.specs.ObjectFiles.{module_of}
 use Rattle.framehop_processes.proofs.object_file.debug_frame_in.Goals as goal

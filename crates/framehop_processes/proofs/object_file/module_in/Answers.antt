@@ -1,5 +1,5 @@
 use Rattle.std.proofs.Common.{rules, ◌≡◌, ap}
-use Rattle.framehop_elf.specs.UnwindSections.{unwind_sections_of, bytes_in}
+use Rattle.framehop_object.specs.Elf.UnwindSections.{unwind_sections_of, bytes_in}
 use Rattle.framehop_processes.specs.MappedBytes.{mapped_sections_view}
 use Rattle.framehop_processes.specs.ObjectFiles.{module_of}
 use Rattle.framehop_processes.proofs.object_file.module_in.Goals as goal

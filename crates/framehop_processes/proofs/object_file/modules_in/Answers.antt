@@ -1,5 +1,5 @@
 use Rattle.std.proofs.Common.{rules, ◌≡◌, ◌∙◌, true, false, None}
-use Rattle.framehop_elf.specs.UnwindSections.{bytes_in, has_eh_frame}
+use Rattle.framehop_object.specs.Elf.UnwindSections.{bytes_in, has_eh_frame}
 use Rattle.framehop_processes.specs.ObjectFiles.{module_with, debug_frame_with}
 use Rattle.framehop_processes.proofs.FrameLemmas.{chosen, not-chosen}
 use Rattle.framehop_processes.proofs.object_file.modules_in.Goals as goal

@@ -1,6 +1,6 @@
 use Rattle.std.proofs.Common.{rules, ◌≡◌, Ok, ap, ◌∙◌}
-use Rattle.framehop_elf.specs.Segment.{loaded_segments_of}
-use Rattle.framehop_elf.specs.UnwindSections.{bytes_in, bytes_or_none, debug_frame_of}
+use Rattle.framehop_object.specs.Elf.Segment.{loaded_segments_of}
+use Rattle.framehop_object.specs.Elf.UnwindSections.{bytes_in, bytes_or_none, debug_frame_of}
 use Rattle.framehop_processes.specs.ObjectFiles.{headers_view, headers_of, code_of, module_in, debug_frame_in, elf_contents, elf_contents_by}
 use Rattle.framehop_processes.proofs.object_file.read_elf.Goals as goal
 

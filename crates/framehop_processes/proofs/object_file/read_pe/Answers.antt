@@ -1,5 +1,5 @@
 use Rattle.std.proofs.Common.{rules, ◌≡◌, Ok, map, ap, ◌∙◌}
-use Rattle.framehop_pe_file.specs.PeFile.{pe_file_of}
+use Rattle.framehop_object.specs.Pe.PeFile.{pe_file_of}
 use Rattle.framehop_processes.specs.ObjectFiles.{segment_of, code_of, pe_contents, pe_contents_by}
 use Rattle.framehop_processes.proofs.object_file.read_pe.Goals as goal
 

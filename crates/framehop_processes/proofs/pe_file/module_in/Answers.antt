@@ -1,5 +1,5 @@
 use Rattle.std.proofs.Common.{[], sym, ap, ◌∙◌}
-use Rattle.framehop_pe_file.specs.UnwindSections.{table_of}
+use Rattle.framehop_object.specs.Pe.UnwindSections.{table_of}
 use Rattle.framehop.specs.Laws.SectionContents.{data-of_bytes}
 use Rattle.framehop.specs.ModuleData.{unwind_data_in}
 use Rattle.framehop.specs.Modules.{ModuleView, UnwindData}

@@ -1,6 +1,0 @@
-use Rattle.std.proofs.Common.{◌≡◌, drop}
-use Rattle.framehop_pe_file.specs.CodeView.{first_rsds}
-use Rattle.framehop_pe_file.proofs.codeview.first_rsds.Given as goal
-
-abbrev pub invariant-loop-entry : goal.invariant-loop-entry
-invariant-loop-entry l = first_rsds l.file l.entries ≡ first_rsds l.file (drop l.entry-index l.entries)
