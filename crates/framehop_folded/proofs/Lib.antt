@@ -2,3 +2,10 @@ mod FoldedLemmas
 mod MergeLemmas
 mod TextLemmas
 mod AddedLemmas
+mod PictureLemmas
+mod StackLemmas
+mod OrderLemmas
+mod SweepLemmas
+mod BoxLemmas
+mod ChangeLemmas
+mod GraphLemmas

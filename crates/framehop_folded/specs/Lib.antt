@@ -6,3 +6,4 @@ pub mod Text
 pub mod Folded
 pub mod Changes
 pub mod Laws
+pub mod FlameGraph

@@ -16,3 +16,4 @@ pub mod changes;
 pub mod error;
 pub mod folded;
 pub mod text;
+pub mod flame_graph;

@@ -1,9 +1,9 @@
 -- What is printed of folded stacks, by the options of the command line.
 use Rattle.std.specs.Prelude.{ℕ, ◌≡◌, Bool, true, false, not, ◌||◌, List, codes, unwrap_or, if◌then◌else◌}
 use Rattle.clap.specs.declared.parser.matches.ArgMatches.{ArgMatches}
-use Rattle.framehop_flame_graph.specs.declared.drawing.Drawing.{Drawing}
-use Rattle.framehop_flame_graph.specs.declared.drawing.Layout.{Layout}
-use Rattle.framehop_flame_graph.specs.declared.drawing.Layout.TheVariants.{Icicle, Flame}
+use Rattle.framehop_folded.specs.declared.flame_graph.drawing.Drawing.{Drawing}
+use Rattle.framehop_folded.specs.declared.flame_graph.drawing.Layout.{Layout}
+use Rattle.framehop_folded.specs.declared.flame_graph.drawing.Layout.TheVariants.{Icicle, Flame}
 use Rattle.framehop_perf_stacks.specs.declared.run.Options.{Options}
 use Rattle.framehop_stacks_cli.specs.CommandLine.{word_of, is_given}
 use Rattle.framehop_stacks_cli.specs.declared.form.Form.{Form}

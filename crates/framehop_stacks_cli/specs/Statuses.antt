@@ -5,8 +5,8 @@ use Rattle.std.specs.Borrow.{Bor}
 use Rattle.std.specs.Fn.{Mut, CalledAt}
 use Rattle.framehop_dump_stacks.specs.declared.error.DumpStacksError.{DumpStacksError}
 use Rattle.framehop_dump_stacks.specs.declared.error.DumpStacksError.TheVariants as dump
-use Rattle.framehop_flame_graph.specs.declared.error.FlameGraphError.{FlameGraphError}
-use Rattle.framehop_flame_graph.specs.declared.error.FlameGraphError.TheVariants as graph
+use Rattle.framehop_folded.specs.declared.flame_graph.error.FlameGraphError.{FlameGraphError}
+use Rattle.framehop_folded.specs.declared.flame_graph.error.FlameGraphError.TheVariants as graph
 use Rattle.framehop_folded.specs.declared.error.FoldedError.{FoldedError}
 use Rattle.framehop_folded.specs.declared.error.FoldedError.TheVariants as folded
 use Rattle.framehop_folded.specs.declared.error.TextError.{TextError}

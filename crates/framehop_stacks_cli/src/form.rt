@@ -4,8 +4,8 @@ ghost use Rattle.framehop_stacks_cli.specs.Form.{are_folded, layout_of, title_of
 
 use crate::command_line::{is_given, word_of};
 use clap::ArgMatches;
-use framehop_flame_graph::drawing::{Drawing, Layout};
-use framehop_flame_graph::script::ZOOM_AND_SEARCH;
+use framehop_folded::flame_graph::drawing::{Drawing, Layout};
+use framehop_folded::flame_graph::script::ZOOM_AND_SEARCH;
 use framehop_perf_stacks::run::Options;
 
 /// What is printed of the folded stacks of recordings.

@@ -1,7 +1,0 @@
-use Rattle.std.proofs.Common.{◌≡◌, ◌++◌, take}
-use Rattle.std.specs.String.{string_bytes}
-use Rattle.framehop_flame_graph.specs.Names.{escaped}
-use Rattle.framehop_flame_graph.proofs.names.push_escaped.Given as goal
-
-abbrev pub invariant-loop-character : goal.invariant-loop-character
-invariant-loop-character l = string_bytes l.out ≡ string_bytes l.initial.out ++ escaped (take l.character-index l.characters)

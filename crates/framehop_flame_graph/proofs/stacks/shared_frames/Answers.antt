@@ -1,9 +1,0 @@
-use Rattle.std.proofs.Common.{◌≡◌, ◌∙◌, sym, arith}
-use Rattle.std.specs.Str.{bytes_eq}
-use Rattle.framehop_flame_graph.proofs.StackLemmas.{common-past}
-use Rattle.framehop_flame_graph.proofs.stacks.shared_frames.Goals as goal
-
-pub returns : goal.returns
-returns c =
-    let ended : c.min-most.result ≡ c.loop-at.at = omega arith in
-    ended ∙ sym (c.loop-at.invariant ∙ common-past (λ x y. bytes_eq x.now y.now) c.args.before.now c.args.frames.now c.loop-at.at (omega arith))
