@@ -10,17 +10,17 @@ use crate::step::{follow_frame_pointer, step_at_start};
 use framehop::AllocationPolicy;
 use framehop::aarch64::UnwinderAarch64;
 use framehop_bytes::section::SectionBytes;
+use framehop_callers::convention::Convention;
+use framehop_callers::memory::WordMemory;
+use framehop_callers::register_file::RegisterFile;
+use framehop_callers::run::RunCaller;
+use framehop_callers::step::RunMemory;
 use framehop_cfi::aarch64;
 use framehop_cfi::context::UnwindContext;
 use framehop_cfi::rule::Register;
 use framehop_cfi::storage::UnwindContextStorage;
-use framehop_callers::convention::Convention;
-use framehop_callers::memory::WordMemory;
-use framehop_callers::register_file::RegisterFile;
 use framehop_core::aarch64::{UnwindRegsAarch64, UnwindRuleAarch64};
 use framehop_core::{Error, FrameAddress};
-use framehop_callers::run::RunCaller;
-use framehop_callers::step::RunMemory;
 use std::alloc::AllocError;
 
 impl<D: SectionBytes + Drop, P: AllocationPolicy> BacktraceUnwinder for UnwinderAarch64<D, P> {

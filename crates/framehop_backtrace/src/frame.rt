@@ -3,9 +3,9 @@ ghost use Rattle.std.specs.Prelude.{◌≡◌};
 ghost use Rattle.framehop_core.specs.CodeAddress.{at_instruction_pointer};
 ghost use Rattle.framehop_backtrace.specs.Backtrace.{frame_view, end_of_refusal, is_stored, is_unknown, root_of};
 
-use framehop_cfi::rule::RegisterRule;
 use framehop_callers::caller::RowRefusal;
 use framehop_callers::register_file::RegisterFile;
+use framehop_cfi::rule::RegisterRule;
 use framehop_core::{Error, FrameAddress};
 
 /// How a frame was found.

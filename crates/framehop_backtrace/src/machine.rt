@@ -9,13 +9,13 @@ ghost use Rattle.framehop_backtrace.specs.Machine.{Machine};
 
 use crate::memory::CodeMemory;
 use framehop::Unwinder;
-use framehop_cfi::rule::Register;
 use framehop_callers::convention::Convention;
 use framehop_callers::memory::WordMemory;
 use framehop_callers::register_file::RegisterFile;
-use framehop_core::{Error, FrameAddress};
 use framehop_callers::run::RunCaller;
 use framehop_callers::step::RunMemory;
+use framehop_cfi::rule::Register;
+use framehop_core::{Error, FrameAddress};
 
 /// An unwinder of an architecture whose calls, registers and signal frames are known.
 pub trait BacktraceUnwinder: Unwinder {

@@ -21,11 +21,11 @@ use crate::memory::{CodeMemory, is_in_code, is_in_trampoline, is_outside_code};
 use crate::rows::{RowFinding, Rows};
 use crate::run::{ProcessCode, by_run};
 use crate::step::step;
+use framehop_callers::caller::caller_by_row;
+use framehop_callers::register_file::RegisterFile;
 use framehop_cfi::context::UnwindContext;
 use framehop_cfi::row::UnwindTableRow;
 use framehop_cfi::storage::UnwindContextStorage;
-use framehop_callers::caller::caller_by_row;
-use framehop_callers::register_file::RegisterFile;
 use framehop_core::{Error, FrameAddress};
 use std::alloc::{AllocError, Global};
 

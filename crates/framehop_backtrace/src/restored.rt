@@ -5,11 +5,11 @@ ghost use Rattle.framehop_callers.specs.RegisterFile.{word_of, with_word};
 ghost use Rattle.framehop_backtrace.specs.Columns.{column};
 ghost use Rattle.framehop_backtrace.specs.Restored.{known_first, knows_kept, comes_to, restored_by, restored_in, with_restored, completed_by, completed_in, with_completed};
 
-use framehop_cfi::rule::Register;
-use framehop_cfi::x86_64::{R12, R15, RA, RBP, RBX, RSP};
 use framehop_callers::register_file::RegisterFile;
 use framehop_callers::run::{RunCaller, caller_by_runs};
 use framehop_callers::step::RunMemory;
+use framehop_cfi::rule::Register;
+use framehop_cfi::x86_64::{R12, R15, RA, RBP, RBX, RSP};
 
 const R13: Register = Register(13);
 

@@ -8,11 +8,11 @@ use crate::frame::{FoundBy, Frame};
 use crate::guess::{Evidence, evidence_at};
 use crate::machine::BacktraceUnwinder;
 use crate::memory::CodeMemory;
-use framehop_code::x86_64::action::Instruction;
 use framehop_callers::memory::WordMemory;
-use framehop_core::FrameAddress;
 use framehop_callers::run::RunCaller;
 use framehop_callers::step::RunMemory;
+use framehop_code::x86_64::action::Instruction;
+use framehop_core::FrameAddress;
 
 /// How many bytes an instruction of x86_64 has at most.
 const MOST_BYTES: u64 = 15;

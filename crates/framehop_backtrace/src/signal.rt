@@ -14,8 +14,8 @@ ghost use Rattle.framehop_backtrace.specs.Columns.{columns_by};
 ghost use Rattle.framehop_backtrace.specs.Signal.{interrupted_aarch64, interrupted_x86_64, is_trampoline, saved_x86_64};
 
 use framehop_bytes::bytes::u64_at;
-use framehop_cfi::rule::Register;
 use framehop_callers::register_file::RegisterFile;
+use framehop_cfi::rule::Register;
 use framehop_core::x86_64::{Reg, UnwindRegsX86_64};
 
 /// `__restore_rt` of x86_64: `mov $15, %rax`, `syscall`.

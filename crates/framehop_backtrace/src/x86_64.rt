@@ -16,17 +16,17 @@ use crate::step::{follow_frame_pointer, step_at_start};
 use framehop::AllocationPolicy;
 use framehop::x86_64::UnwinderX86_64;
 use framehop_bytes::section::SectionBytes;
+use framehop_callers::convention::Convention;
+use framehop_callers::memory::WordMemory;
+use framehop_callers::register_file::RegisterFile;
+use framehop_callers::run::{RunCaller, caller_by_runs};
+use framehop_callers::step::RunMemory;
 use framehop_cfi::context::UnwindContext;
 use framehop_cfi::rule::Register;
 use framehop_cfi::storage::UnwindContextStorage;
 use framehop_cfi::x86_64;
-use framehop_callers::convention::Convention;
-use framehop_callers::memory::WordMemory;
-use framehop_callers::register_file::RegisterFile;
 use framehop_core::x86_64::{Reg, UnwindRegsX86_64, UnwindRuleX86_64};
 use framehop_core::{Error, FrameAddress};
-use framehop_callers::run::{RunCaller, caller_by_runs};
-use framehop_callers::step::RunMemory;
 use std::alloc::AllocError;
 
 impl<D: SectionBytes + Drop, P: AllocationPolicy> BacktraceUnwinder for UnwinderX86_64<D, P> {

@@ -42,14 +42,14 @@
 
 pub mod base;
 pub mod caller;
+pub mod calls;
 pub mod convention;
 pub mod evaluation;
+pub mod known;
 pub mod load;
 pub mod memory;
 pub mod register_file;
 pub mod rules;
-pub mod calls;
-pub mod known;
 pub mod run;
 pub mod state;
 pub mod step;

@@ -9,9 +9,9 @@ use crate::calls::Calls;
 use crate::known::Writes;
 use crate::state::State;
 use crate::step::{RunMemory, Step};
+use framehop_callers::register_file::RegisterFile;
 use framehop_cfi::rule::Register;
 use framehop_cfi::x86_64::{RA, RSP};
-use framehop_callers::register_file::RegisterFile;
 
 /// How many instructions a run does at most.
 const MOST_STEPS: u32 = 1024;

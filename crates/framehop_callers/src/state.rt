@@ -5,13 +5,13 @@ ghost use Rattle.framehop_callers.specs.State.{sum, bytes_of, low, sign_extended
 
 use crate::calls::Calls;
 use crate::known::Writes;
+use framehop_callers::memory::WordMemory;
+use framehop_callers::register_file::RegisterFile;
 use framehop_cfi::rule::Register;
 use framehop_cfi::x86_64::{RBP, RSP};
 use framehop_code::x86_64::action::{
     Address, Computation, Index, Operand, Place, Registers, Source, Width,
 };
-use framehop_callers::memory::WordMemory;
-use framehop_callers::register_file::RegisterFile;
 
 /// What a run knows between two instructions.
 #[derive(Drop)]

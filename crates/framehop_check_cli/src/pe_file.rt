@@ -10,12 +10,12 @@ use crate::findings::Findings;
 use framehop_check::prolog::check_prolog;
 use framehop_check::room::Room;
 use framehop_code::x86_64::CodeX86_64;
-use framehop_pe::unwind_info::function_table::RuntimeFunction;
-use framehop_pe::unwind_info::info::{PrologInfo, UnwindInfo, skip_bytes};
 use framehop_object::pe::header::Machine;
 use framehop_object::pe::pe_file::PeFile;
 use framehop_object::pe::rva::read_at_rva;
 use framehop_object::pe::unwind_sections::lend_unwind_sections;
+use framehop_pe::unwind_info::function_table::RuntimeFunction;
+use framehop_pe::unwind_info::info::{PrologInfo, UnwindInfo, skip_bytes};
 use std::alloc::{AllocError, Global};
 
 /// The size of an entry of the function table, in bytes.

@@ -13,11 +13,13 @@ use crate::wanted::{WantedSegment, want, wanted_parts, wanted_size};
 use framehop_dump_files::coredump::core_file::read_core_file;
 use framehop_dump_files::coredump::mapped_file::{MappedFile, read_mapped_files};
 use framehop_dump_files::coredump::note::read_notes;
-use framehop_object::elf::header::{HEADER_SIZE, read_file_header};
-use framehop_object::elf::program_header::{ENTRY_SIZE as PROGRAM_HEADER_SIZE, PT_NOTE, ProgramHeader};
-use framehop_object::elf::segment::loaded_segments;
 use framehop_memory::left_out::ReadPart;
 use framehop_memory::segment::Segment;
+use framehop_object::elf::header::{HEADER_SIZE, read_file_header};
+use framehop_object::elf::program_header::{
+    ENTRY_SIZE as PROGRAM_HEADER_SIZE, PT_NOTE, ProgramHeader,
+};
+use framehop_object::elf::segment::loaded_segments;
 use std::alloc::{AllocError, Global};
 use std::fs::File;
 use std::{fs, io};

@@ -7,7 +7,9 @@ use crate::gaps::{Gap, Gaps};
 use crate::input::{read_at, read_front, read_sized, zeros};
 use crate::unasked::{end_of_code, gaps_in, is_inside};
 use framehop_object::elf::header::{FileHeader, HEADER_SIZE, read_file_header};
-use framehop_object::elf::program_header::{ENTRY_SIZE as PROGRAM_HEADER_SIZE, read_program_headers};
+use framehop_object::elf::program_header::{
+    ENTRY_SIZE as PROGRAM_HEADER_SIZE, read_program_headers,
+};
 use framehop_object::elf::section_header::{
     ENTRY_SIZE as SECTION_HEADER_SIZE, SectionHeader, read_section_headers,
 };

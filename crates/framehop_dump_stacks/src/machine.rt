@@ -9,9 +9,9 @@ use framehop::section::SectionBytes;
 use framehop::x86_64::{UnwindRegsX86_64, UnwinderX86_64};
 use framehop_core::aarch64::PtrAuthMask;
 use framehop_dump_files::coredump::registers as kernel;
+use framehop_dump_files::minidump::registers as context;
 use framehop_dumps::dump::Registers;
 use framehop_frames::machine::{Start, Steps};
-use framehop_dump_files::minidump::registers as context;
 
 /// An unwinder for the threads of core files and minidumps of its machine.
 pub(crate) trait Dumped: Steps {

@@ -16,9 +16,9 @@ use framehop::generations::Generations;
 use framehop::section::ExplicitModuleSectionInfo;
 use framehop_dumps::dump::{Dump, MappedCode};
 use framehop_dumps::image::sections_behind;
-use framehop_processes::{Mapping, ModuleMaker, Process, ProcessUnwinder};
 use framehop_processes::files::{FileSource, FileUnwinder, Files, placed_at};
 use framehop_processes::mapped_bytes::MappedBytes;
+use framehop_processes::{Mapping, ModuleMaker, Process, ProcessUnwinder};
 use std::alloc::{AllocError, Global};
 
 /// Returns the files whose code is mapped, each once, of which nothing is read before [`read_files_asked_for`].

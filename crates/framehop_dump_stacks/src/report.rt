@@ -19,8 +19,8 @@ use framehop_explain::Note;
 use framehop_frames::explain::note_stack;
 use framehop_frames::stack::Stack;
 use framehop_output::Output;
-use framehop_processes::{Mapping, Process};
 use framehop_processes::files::Files;
+use framehop_processes::{Mapping, Process};
 use std::alloc::{AllocError, Global};
 use std::io::Write;
 

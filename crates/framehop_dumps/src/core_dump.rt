@@ -25,11 +25,11 @@ use framehop_dump_files::coredump::other_system::without_threads;
 use framehop_dump_files::coredump::process::{Process, read_process};
 use framehop_dump_files::coredump::signal_info::SignalInfo;
 use framehop_dump_files::coredump::thread::{Thread as NotedThread, read_threads};
-use framehop_object::elf::segment::loaded_segments;
 use framehop_memory::by_address::SegmentsByAddress;
 use framehop_memory::code::CodeSegments;
 use framehop_memory::memory::ProcessMemory;
 use framehop_memory::segment::{Segment, base_avma};
+use framehop_object::elf::segment::loaded_segments;
 use std::alloc::{AllocError, Global};
 
 /// Reads what a core file says of its process.

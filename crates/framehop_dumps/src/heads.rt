@@ -8,9 +8,9 @@ ghost use Rattle.framehop_dumps.specs.Heads.{file_head_view, file_head_of, kept_
 
 use crate::image::{build_id_in, head_at, segments_in};
 use framehop_dump_files::coredump::mapped_file::MappedFile;
-use framehop_object::elf::segment::loaded_segments;
 use framehop_memory::memory::ProcessMemory;
 use framehop_memory::segment::Segment;
+use framehop_object::elf::segment::loaded_segments;
 use std::alloc::{AllocError, Global};
 use std::collections::BTreeMap;
 

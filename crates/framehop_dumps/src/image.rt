@@ -7,11 +7,11 @@ ghost use Rattle.framehop_dumps.specs.Image.{head_at, segments_in, build_id_in, 
 use framehop_bytes::section::ExplicitModuleSectionInfo;
 use framehop_cfi::header::TableLayout;
 use framehop_cfi::pointer::SectionBaseAddresses;
+use framehop_memory::memory::ProcessMemory;
 use framehop_object::elf::build_id::read_build_id;
 use framehop_object::elf::error::ElfError;
 use framehop_object::elf::header::read_file_header;
 use framehop_object::elf::program_header::{ProgramHeader, read_program_headers};
-use framehop_memory::memory::ProcessMemory;
 use framehop_processes::mapped_bytes::MappedBytes;
 use std::alloc::{AllocError, Global};
 use std::ops::Range;

@@ -13,10 +13,12 @@ use crate::image::{head_at, segments_in};
 use crate::minidump::LoadedModule;
 use framehop_dump_files::coredump::error::CoreFileError;
 use framehop_dump_files::coredump::mapped_file::MappedFile;
-use framehop_object::elf::program_header::{ENTRY_SIZE as PROGRAM_HEADER_SIZE, PT_NOTE, ProgramHeader};
-use framehop_object::elf::segment::read_segment;
-use framehop_memory::memory::ProcessMemory;
 use framehop_dump_files::minidump::error::MinidumpError;
+use framehop_memory::memory::ProcessMemory;
+use framehop_object::elf::program_header::{
+    ENTRY_SIZE as PROGRAM_HEADER_SIZE, PT_NOTE, ProgramHeader,
+};
+use framehop_object::elf::segment::read_segment;
 use std::alloc::{AllocError, Global};
 
 /// Refuses mapped files whose first bytes tell of more program headers and notes than memory has bytes.

@@ -29,23 +29,23 @@ use framehop_cfi::known_cies::KnownCies;
 use framehop_cfi::read_error::ReadError;
 use framehop_cfi::storage::StoreOnHeap;
 use framehop_dwarf::unwinder::find_row;
-use framehop_object::elf::decompressed::ContentsError;
-use framehop_object::elf::elf_file::ElfFile;
-use framehop_object::elf::error::ElfError;
-use framehop_object::elf::header::{EM_AARCH64, EM_X86_64};
-use framehop_object::elf::unwind_sections::{has_eh_frame, read_debug_frame, unwind_sections_with};
 use framehop_explain::explain::explain_module;
 use framehop_explain::pe::Sources;
 use framehop_explain::reason::ReadReason;
 use framehop_explain::{
     DescribeRule, Described, Reason, RowSource, Source, Told, unwind_data_text,
 };
-use framehop_pe::pe::PeUnwinderError;
-use framehop_pe::unwind_info::function_table::RuntimeFunction;
+use framehop_object::elf::decompressed::ContentsError;
+use framehop_object::elf::elf_file::ElfFile;
+use framehop_object::elf::error::ElfError;
+use framehop_object::elf::header::{EM_AARCH64, EM_X86_64};
+use framehop_object::elf::unwind_sections::{has_eh_frame, read_debug_frame, unwind_sections_with};
 use framehop_object::pe::error::PeError;
 use framehop_object::pe::header::{Machine as PeMachine, is_pe};
 use framehop_object::pe::pe_file::PeFile;
 use framehop_object::pe::unwind_sections::read_unwind_sections as read_pe_sections;
+use framehop_pe::pe::PeUnwinderError;
+use framehop_pe::unwind_info::function_table::RuntimeFunction;
 use std::alloc::{AllocError, Global};
 use thiserror::Error;
 

@@ -14,6 +14,6 @@
 
 pub mod changes;
 pub mod error;
+pub mod flame_graph;
 pub mod folded;
 pub mod text;
-pub mod flame_graph;

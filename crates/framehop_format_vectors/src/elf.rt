@@ -3,6 +3,7 @@
 use crate::changed::changed;
 use framehop_bytes::section::ExplicitModuleSectionInfo;
 use framehop_bytes::string::string_at;
+use framehop_memory::segment::Segment;
 use framehop_object::elf::build_id::read_build_id;
 use framehop_object::elf::elf_file::ElfFile;
 use framehop_object::elf::error::ElfError;
@@ -13,7 +14,6 @@ use framehop_object::elf::section_header::{SectionHeader, read_section_headers};
 use framehop_object::elf::segment::loaded_segments;
 use framehop_object::elf::symbol::{SymbolTable, read_function_symbols, read_symbol_names};
 use framehop_object::elf::unwind_sections::read_unwind_sections;
-use framehop_memory::segment::Segment;
 use std::alloc::{AllocError, Global};
 
 /// The bytes of the program.

@@ -8,21 +8,19 @@
 #![tactic(auto)]
 
 #[cfg(test)]
+mod bytes;
+#[cfg(test)]
+mod cases;
+#[cfg(test)]
 mod changed;
 #[cfg(test)]
 mod elf;
 #[cfg(test)]
 mod inflate;
 #[cfg(test)]
-mod process_memory;
-#[cfg(test)]
-mod segments;
-#[cfg(test)]
-mod bytes;
-#[cfg(test)]
-mod cases;
-#[cfg(test)]
 mod memory;
+#[cfg(test)]
+mod process_memory;
 #[cfg(test)]
 mod reads;
 #[cfg(test)]
@@ -31,6 +29,8 @@ mod reads_aarch64;
 mod registers;
 #[cfg(test)]
 mod sections;
+#[cfg(test)]
+mod segments;
 #[cfg(test)]
 mod steps;
 #[cfg(test)]

@@ -7,12 +7,12 @@ use framehop::walk::{StackBytes, Words};
 use framehop_backtrace::CodeMemory;
 use framehop_backtrace::signal::is_trampoline;
 use framehop_bytes::bytes::back;
-use framehop_code::x86_64::action::Instruction;
 use framehop_callers::memory::WordMemory;
-use framehop_processes::{Process, ProcessUnwinder};
+use framehop_code::x86_64::action::Instruction;
 use framehop_processes::code::{code_at, is_at_entry, is_mapped};
 use framehop_processes::files::Files;
 use framehop_processes::place::{Place, place_of};
+use framehop_processes::{Process, ProcessUnwinder};
 
 /// Memory of a process as an input has it: the stack of a sample, or what a dump has.
 pub trait KnownMemory: Words {

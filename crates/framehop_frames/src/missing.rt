@@ -12,15 +12,15 @@ ghost use Rattle.framehop_frames.specs.Walker.{row_limits};
 
 use framehop::{Error, FrameAddress};
 use framehop_backtrace::{BacktraceEnd, BacktraceUnwinder, Frame, RowFinding, Rows, StackTrace};
-use framehop_cfi::context::UnwindContext;
-use framehop_cfi::row::UnwindTableRow;
-use framehop_cfi::rule::{Register, RegisterRule};
-use framehop_cfi::storage::StoreOnStack;
 use framehop_callers::base::{CfaBase, base_of};
 use framehop_callers::convention::Convention;
 use framehop_callers::memory::WordMemory;
 use framehop_callers::register_file::RegisterFile;
 use framehop_callers::rules::cfa_of;
+use framehop_cfi::context::UnwindContext;
+use framehop_cfi::row::UnwindTableRow;
+use framehop_cfi::rule::{Register, RegisterRule};
+use framehop_cfi::storage::StoreOnStack;
 use std::alloc::{AllocError, Global};
 
 /// Returns how a walk ended: at a word that can't be read (AVMA), where its frames tell that this is why no caller was

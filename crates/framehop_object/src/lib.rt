@@ -1,4 +1,3 @@
-
 #![tactic(auto)]
 
 pub mod elf;

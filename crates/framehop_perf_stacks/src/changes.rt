@@ -7,12 +7,12 @@ ghost use Rattle.framehop_perf_stacks.specs.Changes.{is_of_code, number_for, bas
 
 use crate::perf_map::is_anonymous;
 use framehop_processes::Mapping;
+use framehop_processes::files::Files;
 use framehop_recording::error::RecordingError;
 use framehop_recording::kind::{COMM, FORK, MMAP, MMAP2};
 use framehop_recording::mapping::{Mapping as RecordedMapping, read_mapping};
 use framehop_recording::records::Record;
 use framehop_recording::tasks::{Task, read_command, read_task};
-use framehop_processes::files::Files;
 
 /// The process of the kernel's mappings.
 const KERNEL: u32 = u32::MAX;

@@ -7,9 +7,9 @@ ghost use Rattle.framehop_perf_stacks.specs.PerfMap.{is_anonymous, without_prefi
 
 use crate::kallsyms::value_of;
 use crate::window::{after_byte, before_byte, lines_of};
-use framehop_recording::mapping::Mapping;
 use framehop_processes::code_map::{CodeFunction, CodeFunctions, CodeMap};
 use framehop_processes::files::Files;
+use framehop_recording::mapping::Mapping;
 use std::alloc::{AllocError, Global};
 
 /// What gives the maps of processes, as a folder does.

@@ -2,8 +2,8 @@
 ghost use Rattle.std.specs.Prelude.{◌≡◌, string_bytes, IfOk};
 ghost use Rattle.framehop_perf_stacks.specs.Problems.{left_out_text, frames_problem, lines_left_out, IsSaidOf, noted_line, unread_line, IsProblemText, IsLineOf, AreProblems};
 
-use framehop_object::elf::decompressed::ContentsError;
 use framehop_frames::line::push_name;
+use framehop_object::elf::decompressed::ContentsError;
 use framehop_processes::code_map::CodeMap;
 use framehop_processes::files::{Files, NamedFile};
 use framehop_processes::frames_text::frames_text;

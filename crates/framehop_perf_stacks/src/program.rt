@@ -35,9 +35,9 @@ use framehop::x86_64::UnwinderX86_64;
 use framehop_folded::folded::Folded;
 use framehop_output::Output;
 use framehop_processes::ModuleMaker;
-use framehop_recording::error::RecordingError;
 use framehop_processes::files::{FileModules, FileSource, Files};
 use framehop_processes::mapped_bytes::MappedBytes;
+use framehop_recording::error::RecordingError;
 use std::alloc::Global;
 use std::io::Write;
 

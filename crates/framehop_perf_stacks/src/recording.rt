@@ -17,6 +17,7 @@ ghost use Rattle.framehop_perf_stacks.specs.declared.error.StacksError.{StacksEr
 use crate::error::StacksError;
 use crate::perf_map::{MapSource, add_map};
 use crate::sampled::sampled_mappings;
+use framehop_processes::files::{FileSource, Files};
 use framehop_recording::attributes::Attribute;
 use framehop_recording::build_ids::{FileBuildId, read_build_ids};
 use framehop_recording::error::RecordingError;
@@ -26,7 +27,6 @@ use framehop_recording::mapping::Mapping;
 use framehop_recording::order::{TimedRecord, in_order_of_time};
 use framehop_recording::records::{Record, read_records};
 use framehop_recording::sample::{Sample, read_sample};
-use framehop_processes::files::{FileSource, Files};
 use std::alloc::{AllocError, Global};
 use std::collections::BTreeMap;
 

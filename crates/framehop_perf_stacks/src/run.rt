@@ -52,6 +52,7 @@ use framehop_frames::line::{has_guess, sure_part};
 use framehop_frames::machine::Start;
 use framehop_frames::stack::{Stack, StackFrame};
 use framehop_output::Output;
+use framehop_processes::files::Files;
 use framehop_processes::{Mapping, ModuleMaker};
 use framehop_recording::chain::user_part;
 use framehop_recording::error::RecordingError;
@@ -59,7 +60,6 @@ use framehop_recording::kind::{LOST, SAMPLE};
 use framehop_recording::records::Record;
 use framehop_recording::sample::{CallChain, Sample, UserStack};
 use framehop_recording::tasks::read_lost;
-use framehop_processes::files::Files;
 use std::alloc::{AllocError, Global};
 use std::io::Write;
 

@@ -10,8 +10,8 @@ use framehop_frames::line;
 use framehop_frames::line::{end_name, push_end, push_mark};
 use framehop_frames::stack::{Stack, StackFrame};
 use framehop_processes::Mapping;
-use framehop_recording::sample::Sample;
 use framehop_processes::files::Files;
+use framehop_recording::sample::Sample;
 use std::alloc::{AllocError, Global};
 
 /// How many bytes of a stack the kernel copies at most, and perf asks for.

@@ -5,9 +5,9 @@ ghost use Rattle.framehop_processes.specs.Exports.{start_after, end_of_leaf, siz
 
 use framehop_bytes::place::{Starts, place};
 use framehop_object::elf::symbol::Symbol;
-use framehop_pe::unwind_info::function_table::FunctionTableEntries;
 use framehop_object::pe::exports::{Export, exports_in};
 use framehop_object::pe::header::FileHeader;
+use framehop_pe::unwind_info::function_table::FunctionTableEntries;
 use std::alloc::{AllocError, Global};
 
 /// Returns the functions that a file exports by names, as symbols whose names lie in the export directory, which has these

@@ -42,12 +42,14 @@ mod modules;
 pub mod process;
 pub mod shared;
 pub mod unwinder;
+
 pub use error::ProcessesError;
 pub use maker::ModuleMaker;
 pub use mapping::Mapping;
 pub use process::Process;
 pub use shared::SharedMappings;
 pub use unwinder::ProcessUnwinder;
+
 pub mod code;
 pub mod code_map;
 pub mod debug_frame;

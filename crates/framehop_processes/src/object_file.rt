@@ -26,6 +26,7 @@ use crate::read_refusal::ReadRefusal;
 use framehop::Module;
 use framehop::section::ExplicitModuleSectionInfo;
 use framehop_bytes::string::{before_nul, string_at};
+use framehop_memory::segment::{Segment, base_avma};
 use framehop_object::elf::build_id::read_build_id;
 use framehop_object::elf::decompressed::ContentsError;
 use framehop_object::elf::elf_file::ElfFile;
@@ -40,7 +41,6 @@ use framehop_object::elf::symbol::{
 use framehop_object::elf::unwind_sections::{
     debug_frame_sections, has_eh_frame, read_debug_frame, unwind_sections_with,
 };
-use framehop_memory::segment::{Segment, base_avma};
 use framehop_object::pe::error::PeError;
 use framehop_object::pe::exports::read_export_directory;
 use framehop_object::pe::header::is_pe;

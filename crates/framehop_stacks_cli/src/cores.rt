@@ -8,10 +8,12 @@ use crate::output::{print_end, status_of_dump};
 use crate::request::{Request, refuse_file};
 use crate::sources::Sources;
 use framehop_cli::{Result, StandardOutput};
-use framehop_dump_files::coredump::core_file::Machine;
-use framehop_dump_files::coredump::registers::{aarch64_registers, code_ptr_auth_mask, x86_64_registers};
 use framehop_disk::core_parts::{CoreParts, ReadMemory};
 use framehop_disk::input::Kind;
+use framehop_dump_files::coredump::core_file::Machine;
+use framehop_dump_files::coredump::registers::{
+    aarch64_registers, code_ptr_auth_mask, x86_64_registers,
+};
 use framehop_dump_stacks::error::DumpStacksError;
 use framehop_dump_stacks::json_report::Json;
 use framehop_dump_stacks::program::write_core_stacks;

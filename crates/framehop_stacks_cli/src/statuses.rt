@@ -4,8 +4,8 @@ ghost use Rattle.framehop_stacks_cli.specs.Statuses.{IsGreatestOf};
 
 use framehop_cli::Result;
 use framehop_dump_stacks::error::DumpStacksError;
-use framehop_folded::flame_graph::error::FlameGraphError;
 use framehop_folded::error::{FoldedError, TextError};
+use framehop_folded::flame_graph::error::FlameGraphError;
 use framehop_perf_stacks::error::StacksError;
 use std::fmt::Display;
 

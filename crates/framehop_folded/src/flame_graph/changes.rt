@@ -9,7 +9,9 @@ use crate::flame_graph::boxes::FrameBox;
 use crate::flame_graph::drawing::{Drawing, Layout};
 use crate::flame_graph::names::{characters_of, push_escaped};
 use crate::flame_graph::numbers::{is_shown, nearest_share, push_hundredths, share};
-use crate::flame_graph::picture::{push_head, push_label, push_samples, push_script, push_span, top_of};
+use crate::flame_graph::picture::{
+    push_head, push_label, push_samples, push_script, push_span, top_of,
+};
 use std::alloc::{AllocError, Global};
 
 /// A box of the second run.

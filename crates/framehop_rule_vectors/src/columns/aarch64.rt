@@ -1,8 +1,8 @@
 //! Rows of aarch64, by hand.
 use crate::columns::frames::{Known, NoCaller, Section, caller_of, has_columns};
-use framehop_cfi::storage::StoreOnStack;
 use framehop_callers::caller::{Caller, RowRefusal};
 use framehop_callers::convention::Convention;
+use framehop_cfi::storage::StoreOnStack;
 use std::alloc::{AllocError, Global};
 use std::test::Fail;
 

@@ -1,9 +1,9 @@
 //! Expressions that read memory, by hand (DWARF 5 section 2.5.1.3).
 use crate::columns::frames::{bytes_of, memory_of};
-use framehop_cfi::rule::{CfaRule, Expression, Register};
 use framehop_callers::base::{CfaBase, base_of};
 use framehop_callers::evaluation::evaluate;
 use framehop_callers::register_file::RegisterFile;
+use framehop_cfi::rule::{CfaRule, Expression, Register};
 use std::alloc::{AllocError, Global};
 use std::test::Fail;
 

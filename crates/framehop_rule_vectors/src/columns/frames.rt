@@ -1,14 +1,14 @@
 //! What the tests need: sections, registers and a memory.
 use framehop_bytes::bytes::front;
+use framehop_callers::caller::{Caller, RowRefusal, caller_by_row};
+use framehop_callers::convention::Convention;
+use framehop_callers::memory::WordMemory;
+use framehop_callers::register_file::RegisterFile;
 use framehop_cfi::context::UnwindContext;
 use framehop_cfi::entry::{UnwindSection, UnwindSectionType};
 use framehop_cfi::pointer::BaseAddresses;
 use framehop_cfi::rule::Register;
 use framehop_cfi::storage::UnwindContextStorage;
-use framehop_callers::caller::{Caller, RowRefusal, caller_by_row};
-use framehop_callers::convention::Convention;
-use framehop_callers::memory::WordMemory;
-use framehop_callers::register_file::RegisterFile;
 use framehop_dwarf::unwinder::find_row;
 use framehop_memory::memory::{MemoryRange, ProcessMemory};
 use std::alloc::{AllocError, Global};

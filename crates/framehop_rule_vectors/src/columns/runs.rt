@@ -2,13 +2,13 @@
 ghost use Rattle.std.specs.Prelude.{ℕ, Option, ◌≡◌, nat_lt, if◌then◌else◌, [], drop, length};
 
 use crate::columns::frames::{bytes_of, memory_of};
-use framehop_cfi::rule::Register;
-use framehop_cfi::x86_64::{R15, RA, RBP, RBX, RSP};
-use framehop_code::x86_64::action::{Instruction, action_at};
 use framehop_callers::memory::WordMemory;
 use framehop_callers::register_file::RegisterFile;
 use framehop_callers::run::{RunCaller, caller_by_runs};
 use framehop_callers::step::RunMemory;
+use framehop_cfi::rule::Register;
+use framehop_cfi::x86_64::{R15, RA, RBP, RBX, RSP};
+use framehop_code::x86_64::action::{Instruction, action_at};
 use std::alloc::{AllocError, Global};
 use std::test::Fail;
 

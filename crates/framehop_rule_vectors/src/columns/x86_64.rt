@@ -3,10 +3,10 @@
 //! frame, by `scripts/callers.py`, but for registers that the row doesn't name and that calls may change: gdb keeps their
 //! values, and nothing is known of them.
 use crate::columns::frames::{Known, NoCaller, Section, caller_of};
-use framehop_cfi::rule::Register;
-use framehop_cfi::storage::{StoreOnHeap, StoreOnStack};
 use framehop_callers::caller::{Caller, RowRefusal};
 use framehop_callers::convention::Convention;
+use framehop_cfi::rule::Register;
+use framehop_cfi::storage::{StoreOnHeap, StoreOnStack};
 use std::test::Fail;
 
 /// `AES_encrypt` of libcrypto: the CFA is by rax, then at a word of the stack, then by rsi.

@@ -5,9 +5,9 @@ use crate::backtrace::unwinders::{LentAarch64, sections_of, unwinder_aarch64};
 use framehop::Unwinder;
 use framehop::aarch64::{CacheAarch64, PtrAuthMask, UnwindRegsAarch64};
 use framehop_backtrace::{BacktraceEnd, FoundBy, Frame, RowRoom, StackTrace, backtrace};
+use framehop_callers::register_file::RegisterFile;
 use framehop_cfi::rule::Register;
 use framehop_cfi::storage::StoreOnStack;
-use framehop_callers::register_file::RegisterFile;
 use std::alloc::{AllocError, Global};
 use std::test::Fail;
 

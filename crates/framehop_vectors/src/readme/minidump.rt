@@ -1,7 +1,6 @@
 //! The example of a minidump of docs/EXAMPLES.md.
 use anyhow::Context;
 use framehop::x86_64::UnwindRegsX86_64;
-use framehop_memory::memory::ProcessMemory;
 use framehop_dump_files::minidump::error::MinidumpError;
 use framehop_dump_files::minidump::exception::{context_of, read_exception};
 use framehop_dump_files::minidump::location::read_located;
@@ -9,6 +8,7 @@ use framehop_dump_files::minidump::memory::read_memory;
 use framehop_dump_files::minidump::registers::x86_64_registers;
 use framehop_dump_files::minidump::stream::{Stream, read_streams};
 use framehop_dump_files::minidump::thread::read_threads;
+use framehop_memory::memory::ProcessMemory;
 use std::alloc::Global;
 
 /// The threads and the exception of the minidump that LLDB wrote for the program of `checks/stacks/crash.c`, with their registers up to
