@@ -1,9 +1,10 @@
+-- Lemmas of this crate.
+pub mod CallerLemmas
 pub mod Columns
 pub mod Meaning
 pub mod Named
 pub mod ReturnAddress
-pub mod Values
 pub mod Runs
-pub mod StoreLemmas
 pub mod SoundLemmas
-pub mod CallerLemmas
+pub mod StoreLemmas
+pub mod Values

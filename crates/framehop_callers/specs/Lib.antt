@@ -1,4 +1,5 @@
--- What the contracts of this crate cite: registers by column, expressions that read memory, and a row's meaning.
+-- What the contracts of this crate cite: registers by column, expressions that read memory, a row's meaning; what a run
+-- knows, how it goes on, and the caller that it comes to.
 pub mod Base
 pub mod Caller
 pub mod Convention
@@ -6,7 +7,6 @@ pub mod Evaluation
 pub mod Load
 pub mod RegisterFile
 pub mod Rules
--- What the contracts of this crate cite: what a run knows, how it goes on, and the caller that it comes to.
 pub mod Known
 pub mod Calls
 pub mod State

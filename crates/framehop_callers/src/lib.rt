@@ -1,30 +1,28 @@
-//! The caller's registers by a row of call frame information (DWARF 5 section 6.4), over the whole register file of a
-//! frame: each column that the row or the calling convention describes, by any register that is known, with expressions
-//! that read memory.
+//! The caller of a frame over its whole register file: by a row of call frame information (DWARF 5 section 6.4), or by
+//! running the frame's code forward to the function's return.
 //!
-//! An unwind rule has a few registers only, and its expressions read no memory. This serves where the row needs more, as
-//! in hand-written assembly, and the frames of which all registers are known: the innermost one, and the one that a
-//! signal interrupted.
-//!
-//! # Decisions
-//!
-//! - The library's rules stay as they are: a row whose CFA is by another register, or by a word of
-//!   memory, has no rule, and the original follows the frame pointer there. This crate evaluates it
-//!   over registers that are known or not.
-//! - A register that the row doesn't name has its own value only where functions keep it, where gdb
-//!   keeps each. Sums are exact, and one that is no address is refused, where gdb lets it wrap.
-//! - `DW_OP_deref_size` reads the first bytes of a word of eight, so it has no value where that
-//!   can't be read.
-//! - A frame is the outermost one where its return address is undefined. Memory is lent as a value
-//!   (`WordMemory`): nothing is written, so contracts need no premise on it.
-//!
-//! The caller of a frame by running its code forward to the function's return.
+//! An unwind rule has a few registers only, and its expressions read no memory. A row is evaluated here for each column
+//! that it or the calling convention describes, by any register that is known, with expressions that read memory: rows of
+//! hand-written assembly need more than a rule has, and of the innermost frame, and the one that a signal interrupted, all
+//! registers are known.
 //!
 //! Where no unwind data covers an address, as in hand-written assembly, the code itself says who the caller is: the
 //! processor will return to it. A run goes on from an instruction over the registers and the memory that are known,
 //! without the process, until the function returns.
 //!
 //! # Decisions
+//!
+//! Rows:
+//!
+//! - The library's rules stay as they are: a row whose CFA is by another register, or by a word of memory, has no rule,
+//!   and the original follows the frame pointer there. It is evaluated here over registers that are known or not.
+//! - A register that the row doesn't name has its own value only where functions keep it, where gdb keeps each. Sums are
+//!   exact, and one that is no address is refused, where gdb lets it wrap.
+//! - `DW_OP_deref_size` reads the first bytes of a word of eight, so it has no value where that can't be read.
+//! - A frame is the outermost one where its return address is undefined. Memory is lent as a value (`WordMemory`):
+//!   nothing is written, so contracts need no premise on it.
+//!
+//! Runs:
 //!
 //! - Flags and vector registers are not followed. Of each conditional jump one way is taken, differently in two runs, which
 //!   go through a loop once more in different ways: what a loop changes is then known to neither or not alike. Where both

@@ -1,8 +1,7 @@
 -- Lemmas of this crate.
+pub mod FileLemmas
 pub mod GatherLemmas
 pub mod NoteLemmas
-pub mod ThreadLemmas
-pub mod FileLemmas
-mod VectorLemmas
--- Lemmas of this crate.
 pub mod RangeLemmas
+pub mod ThreadLemmas
+mod VectorLemmas

@@ -1,11 +1,12 @@
-mod FoldedLemmas
-mod MergeLemmas
-mod TextLemmas
+-- Lemmas of this crate.
 mod AddedLemmas
-mod PictureLemmas
-mod StackLemmas
-mod OrderLemmas
-mod SweepLemmas
 mod BoxLemmas
 mod ChangeLemmas
+mod FoldedLemmas
 mod GraphLemmas
+mod MergeLemmas
+mod OrderLemmas
+mod PictureLemmas
+mod StackLemmas
+mod SweepLemmas
+mod TextLemmas

@@ -1,4 +1,5 @@
-//! Folded stacks: how often each stack was counted. Reads them as text, adds them up, and writes them.
+//! Folded stacks: how often each stack was counted. Reads them as text, adds them up, writes them, and draws them as a flame
+//! graph.
 //!
 //! # Decisions
 //!

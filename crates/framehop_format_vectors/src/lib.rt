@@ -1,7 +1,6 @@
-//! What only calls show of files: ELF and PE files, compressed sections, recordings, core files, minidumps, and their memory. What
-//! programs print of files is cases, in `checks/cases/core_files` and the others. This crate has only tests.
-//!
-//! Sweeps over sections, reads, registers and allocations. This crate has only tests.
+//! What only calls show of files: ELF and PE files, compressed sections, recordings, core files, minidumps, and their memory (what
+//! programs print of files is cases, in `checks/cases/core_files` and the others); and sweeps over sections, reads, registers
+//! and allocations. This crate has only tests.
 //!
 //! Each sweep takes a worked example, changes one thing of it in each way that there is, and says of all of them how
 //! many steps come to which end.

@@ -1,11 +1,11 @@
 -- Lemmas of this crate.
-mod MappingLemmas
 mod AddressLemmas
-mod ExchangeLemmas
 mod CodeLemmas
 mod CodeMapLemmas
+mod ExchangeLemmas
 mod FileLemmas
+mod FrameLemmas
 mod MapLemmas
+mod MappingLemmas
 mod PlaceLemmas
 mod PlainnessLemmas
-mod FrameLemmas

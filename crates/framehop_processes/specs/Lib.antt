@@ -1,9 +1,9 @@
--- What the contracts of this crate cite: mappings, and the process that they are of.
+-- What the contracts of this crate cite: mappings, the process that they are of, the files that it maps, and where addresses
+-- are in them.
 pub mod Refusal
 pub mod Mappings
 pub mod Process
 pub mod Shared
--- What the contracts of this crate cite: the files that processes map, and where addresses are in them.
 pub mod ReadRefusal
 pub mod Source
 pub mod MadeUpId

@@ -1,4 +1,5 @@
-//! Processes, of a recording or a dump: which files are mapped in each, and an unwinder with their modules.
+//! Processes, of a recording or a dump: which files are mapped in each, what a mapped file gives (its segments with their
+//! code, its unwind data, its functions), where an address is in it, and an unwinder with the modules of all mappings.
 //!
 //! # Decisions
 //!
@@ -10,14 +11,8 @@
 //! - `Process::exchanged` goes through both lists of mappings, and makes the modules of those that
 //!   one has and the other has not. To skip what trees of mappings share, a proof would have to
 //!   know that two pointers to one place have one value, which no clause of `Rc` says.
-//! - Modules are made by a trait (`ModuleMaker`), so that this crate knows no file format. Mappings
-//!   that can't be executed are not to be given.
-//!
-//! What a mapped file gives: its segments, its unwind data and its symbols; where an address is in it; and the modules
-//! of mappings.
-//!
-//! # Decisions
-//!
+//! - Modules are made by a trait (`ModuleMaker`), so that what processes map knows no file format.
+//!   Mappings that can't be executed are not to be given.
 //! - One maker of modules serves all unwinders over the bytes of mapped files (`FileUnwinder`). The
 //!   index of a file is made once: its module lies at no address, and the modules of its mappings
 //!   share its unwind data.
@@ -34,12 +29,26 @@
 #![tactic(auto)]
 
 mod around;
+pub mod code;
+pub mod code_map;
+pub mod debug_frame;
 pub mod error;
 mod exchange;
+mod exports;
+pub mod files;
+pub mod frames_text;
+mod function_start;
+pub mod made_up_id;
 pub mod maker;
+pub mod mapped_bytes;
 pub mod mapping;
 mod modules;
+pub mod object_file;
+mod pe_file;
+pub mod place;
+mod plainness;
 pub mod process;
+pub mod read_refusal;
 pub mod shared;
 pub mod unwinder;
 
@@ -49,18 +58,3 @@ pub use mapping::Mapping;
 pub use process::Process;
 pub use shared::SharedMappings;
 pub use unwinder::ProcessUnwinder;
-
-pub mod code;
-pub mod code_map;
-pub mod debug_frame;
-mod exports;
-pub mod files;
-pub mod frames_text;
-mod function_start;
-pub mod made_up_id;
-pub mod mapped_bytes;
-pub mod object_file;
-mod pe_file;
-pub mod place;
-mod plainness;
-pub mod read_refusal;
