@@ -1,6 +1,6 @@
 #!/usr/bin/env bash
 # Lets one allocation after another fail in built tests: refuse_allocations_in_tests.sh [TESTS..]. TESTS are what `rt ci`
-# leaves, or `rt test` in a crate's folder; without any those of framehop_sweeps, framehop_vectors and
+# leaves, or `rt test` in a crate's folder; without any those of framehop_format_vectors, framehop_vectors and
 # framehop_rule_vectors. (checks/refuse_allocations.sh does so in the program, in the same way.)
 #
 # A test of a module `memory` that has had a failure tries again, and so passes. Tests whose names begin with requests_of_
@@ -9,7 +9,7 @@
 # and each of the programs has such a pair.
 set -u
 checks=$(dirname "$(realpath -- "${BASH_SOURCE[0]}")") || exit 2
-[ $# -gt 0 ] || set -- "$checks"/../crates/{framehop_sweeps/out/framehop_sweeps,framehop_vectors/out/framehop_vectors,framehop_rule_vectors/out/framehop_rule_vectors}_tests
+[ $# -gt 0 ] || set -- "$checks"/../crates/{framehop_format_vectors/out/framehop_format_vectors,framehop_vectors/out/framehop_vectors,framehop_rule_vectors/out/framehop_rule_vectors}_tests
 work=$(mktemp -d) || exit 1
 trap 'rm -rf "$work"' EXIT
 cc -shared -fPIC -O1 -o "$work/failing.so" "$checks/failing_allocations.c" -ldl || exit 1

@@ -2,7 +2,7 @@
 """Sweeps over unwind sections, for programs that read the input of framehop-walk.
 
     checks/sweeps.py totals PROGRAM [SWEEP..]
-        what each sweep of crates/framehop_sweeps comes to by PROGRAM: the numbers that src/bytes.rt asks for
+        what each sweep of crates/framehop_format_vectors comes to by PROGRAM: the numbers that src/bytes.rt asks for
     checks/sweeps.py rules
         what the sweeps over rules come to, by the table of rules as it is written here
     checks/sweeps.py pairs ONE OTHER [--count N] [--seed N]
@@ -27,7 +27,7 @@ import sys
 import tempfile
 
 TOP = os.path.dirname(os.path.dirname(os.path.abspath(__file__)))
-SOURCE = os.path.join(TOP, "crates/framehop_sweeps/src/sections.rt")
+SOURCE = os.path.join(TOP, "crates/framehop_format_vectors/src/sections.rt")
 STACK = "1 2 100300 4 40 100200 5 6 70 100100 7 8 9 a 0 0".split()
 MEMORY = json.dumps({"base": "0", "words": STACK})
 STEPS_IN_A_RUN = 1800

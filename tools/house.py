@@ -19,9 +19,9 @@ LIBRARY, PROGRAM = ("#dbe8f7", "#2b5d94"), ("#dff2df", "#2c7a39")
 # the storeys, from the top, with the crates of each
 STOREYS = {
     "Programs": "walk walk_cli explain_cli check_cli stacks_cli cli disk",
-    "Stacks": "backtrace check columns dump_stacks dumps explain flame_graph frames perf_stacks runs symbols",
-    "The library": "framehop lent c dwarf processes",
-    "Formats": "cfi code coredump elf folded macho minidump pe pe_file recording",
+    "Stacks": "backtrace callers check dump_stacks dumps explain frames perf_stacks processes",
+    "The library": "framehop lent c dwarf",
+    "Formats": "cfi code dump_files folded macho object pe recording",
     "Bytes and registers": "analysis bytes cache core inflate memory output",
 }
 # on these nearly all stand: a line to them is drawn in their storey only
@@ -33,7 +33,7 @@ def stands_on():
     """For each crate, but those of tests, the crates of this repository in its line of crates.txt."""
     lines = (line.partition(":") for line in (TOP / "crates.txt").read_text().splitlines() if ":" in line)
     named = {name.split()[0]: rest.split() for name, _, rest in lines if not name.startswith("#")}
-    kept = {name for name in named if not name.endswith(("_vectors", "_sweeps"))}
+    kept = {name for name in named if not name.endswith("_vectors")}
     return {name: kept.intersection(named[name]) for name in named if name in kept}
 
 

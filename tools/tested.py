@@ -42,7 +42,7 @@ def of_script(file):
 
 
 def tests_of_crates():
-    for crate in [*sorted(TOP.glob("crates/*_vectors")), TOP / "crates/framehop_sweeps"]:
+    for crate in sorted(TOP.glob("crates/*_vectors")):
         yield from ("", f"`{crate.name}`:", "")
         for file in sorted((crate / "src").rglob("*.rt")):
             if "#[test]" in file.read_text():

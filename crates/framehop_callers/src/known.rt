@@ -3,8 +3,8 @@ ghost use Rattle.std.specs.Prelude.{◌≡◌, [], not};
 ghost use Rattle.std.specs.List.{filter};
 ghost use Rattle.framehop_callers.specs.Known.{is_at, touches, said, written, unwritten, known_by, loaded, stored, left_by};
 
+use crate::memory::WordMemory;
 use arrayvec::ArrayVec;
-use framehop_callers::memory::WordMemory;
 use std::marker::Model;
 
 /// Bytes that a run has written.

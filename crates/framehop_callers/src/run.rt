@@ -7,9 +7,9 @@ ghost use Rattle.framehop_callers.specs.Sound.{IsSound};
 
 use crate::calls::Calls;
 use crate::known::Writes;
+use crate::register_file::RegisterFile;
 use crate::state::State;
 use crate::step::{RunMemory, Step};
-use framehop_callers::register_file::RegisterFile;
 use framehop_cfi::rule::Register;
 use framehop_cfi::x86_64::{RA, RSP};
 

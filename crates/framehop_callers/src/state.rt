@@ -5,8 +5,8 @@ ghost use Rattle.framehop_callers.specs.State.{sum, bytes_of, low, sign_extended
 
 use crate::calls::Calls;
 use crate::known::Writes;
-use framehop_callers::memory::WordMemory;
-use framehop_callers::register_file::RegisterFile;
+use crate::memory::WordMemory;
+use crate::register_file::RegisterFile;
 use framehop_cfi::rule::Register;
 use framehop_cfi::x86_64::{RBP, RSP};
 use framehop_code::x86_64::action::{

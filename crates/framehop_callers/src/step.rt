@@ -4,8 +4,8 @@ ghost use Rattle.framehop_code.specs.X86_64.Action.{action_at};
 ghost use Rattle.framehop_callers.specs.State.{left_by};
 ghost use Rattle.framehop_callers.specs.Step.{Source as RunSource, after, on_at, changed, takes, with_loop, met, branched, jumped, counted, passed_over, with_call_at, entered, is_entered, has_some, called, returned, is_own_return, returned_to, done, checked, stepped, step_of};
 
+use crate::memory::WordMemory;
 use crate::state::{State, computed_of};
-use framehop_callers::memory::WordMemory;
 use framehop_cfi::rule::Register;
 use framehop_cfi::x86_64::RSP;
 use framehop_code::x86_64::action::{Action, Instruction, Registers, Stored, Width};

@@ -1,4 +1,4 @@
--- What the contracts of this crate cite: the parts of a core file.
+-- What the contracts of its module cite: the parts of a core file.
 --
 -- The sources are the System V gABI, chapter 5 ("Program Header", "Note Section"), the manual page core(5), and Linux,
 -- as each file says.

@@ -1,4 +1,4 @@
--- What the contracts of this crate cite: the parts of a minidump.
+-- What the contracts of its module cite: the parts of a minidump.
 --
 -- The sources are Microsoft's minidumpapiset.h (the structs that begin with MINIDUMP) and winnt.h, and Breakpad's
 -- minidump_format.h and minidump_cpu_arm64.h (those that begin with MD).

@@ -1,4 +1,4 @@
--- What the contracts of this crate cite: stacks, boxes and their picture.
+-- What the contracts of its module cite: stacks, boxes and their picture.
 --
 -- A stack is the names of its frames from the outermost on. A *prefix* of stacks is a list of one frame or more with
 -- which one of them begins.

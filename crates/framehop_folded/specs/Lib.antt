@@ -1,4 +1,4 @@
--- What the contracts of this crate cite: folded stacks and their text.
+-- What the contracts of this crate cite: folded stacks, their text and their picture.
 --
 -- A *folded stack* is the names of a stack's frames from the outermost on, joined by `;`, with how often it was
 -- counted.

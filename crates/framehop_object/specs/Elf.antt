@@ -1,4 +1,4 @@
--- What the contracts of this crate cite: the parts of an ELF file.
+-- What the contracts of its module cite: the parts of an ELF file.
 --
 -- The source is the System V gABI, chapter 4 ("Object Files") and chapter 5 ("Program Loading and Dynamic Linking").
 pub mod Numbers

@@ -1,4 +1,4 @@
--- What the contracts of this crate cite: the parts of a PE file.
+-- What the contracts of its module cite: the parts of a PE file.
 --
 -- The source is Microsoft's "PE Format"; numbers and structs have their names in winnt.h.
 pub mod Numbers

@@ -1,5 +1,5 @@
 -- What is kept of the files that processes map, ELF files and PE files, by their bytes.
--- What a PE file is: Microsoft, "PE Format", by the readers of `framehop_pe_file`.
+-- What a PE file is: Microsoft, "PE Format", by the readers of `framehop_object`.
 use Rattle.std.specs.Prelude.{◌≡◌, ◌⊎◌, ℕ, ◌-◌, nat_eq, nat_le, nat_lt, bit_and, ◌==◌, List, [], ◌∷◌, ◌++◌, map, take, drop, codes, Bool, false, not, ◌&&◌, ◌||◌, length, if◌then◌else◌, Option, Some, None, option_to_list, unwrap_or, Result, Ok, Err}
 use Rattle.std.specs.List.{starts_with, filter, list_any}
 use Rattle.std.specs.Cmp.Lexicographic.{pointwise}

@@ -4,11 +4,11 @@ ghost use Rattle.framehop_processes.specs.Mappings.{IsInOrder};
 ghost use Rattle.framehop_processes.specs.ObjectFiles.{segment_view, code_view, code_of};
 ghost use Rattle.framehop_processes.specs.Code.{segment_code, has_svma, code_from, code_in_mapping, code_at, is_mapped, entry_in_mapping, is_at_entry};
 
+use crate::Mapping;
 use crate::files::Files;
 use crate::place::{mapping_asked_for, mapping_at};
 use framehop_bytes::bytes::{back, front};
 use framehop_memory::segment::Segment;
-use framehop_processes::Mapping;
 use std::alloc::{AllocError, Global};
 
 /// The code of a file. Its bytes are kept once, also where segments share them.

@@ -3,11 +3,11 @@ ghost use Rattle.std.specs.Prelude.{◌≡◌, option_map};
 ghost use Rattle.framehop_processes.specs.Mappings.{IsInOrder};
 ghost use Rattle.framehop_processes.specs.DebugFrame.{debug_frame_in_mapping, debug_frame_at};
 
+use crate::Mapping;
 use crate::files::Files;
 use crate::mapped_bytes::MappedBytes;
 use crate::place::mapping_asked_for;
 use framehop::Module;
-use framehop_processes::Mapping;
 
 /// Returns a module of the `.debug_frame` that the file mapped at an address (AVMA) has beside its `.eh_frame`, and the
 /// relative address in it, by mappings in order.

@@ -4,10 +4,10 @@ ghost use Rattle.std.specs.List.{find};
 ghost use Rattle.framehop_processes.specs.Mappings.{IsInOrder};
 ghost use Rattle.framehop_processes.specs.Place.{place_view, starting_by, has_address, unnamed_start, place_started, place_at, name_in_map, place_in_object, place_in_file};
 
+use crate::Mapping;
 use crate::code_map::CodeMap;
 use crate::files::{Files, NamedFile};
 use crate::object_file::ObjectFile;
-use framehop_processes::Mapping;
 
 /// Where an address is.
 #[derive(Clone, Copy, Drop)]

@@ -6,7 +6,7 @@ ghost use Rattle.std.specs.Str.{bytes_eq};
 ghost use Rattle.framehop_folded.specs.FlameGraph.Stacks.{Stacked, frames_of, viewed, viewed_before, stacks_of, stacks_before};
 ghost use Rattle.framehop_folded.specs.FlameGraph.Sweep.{Rises, shared_frames, frames_before, neighbours_of};
 
-use framehop_folded::folded::Folded;
+use crate::folded::Folded;
 use std::alloc::{AllocError, Global};
 
 /// A stack: the names of its frames from the outermost on, and how often it was counted.

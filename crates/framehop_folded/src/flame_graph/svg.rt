@@ -9,6 +9,7 @@ ghost use Rattle.framehop_folded.specs.FlameGraph.Changes.{IsChangeGraph, refusa
 ghost use Rattle.framehop_folded.specs.FlameGraph.Stacks.{stacks_of, stacks_before, total_of};
 ghost use Rattle.framehop_folded.specs.declared.flame_graph.error.FlameGraphError.TheVariants.{OutOfMemory};
 
+use crate::changes::Changes;
 use crate::flame_graph::boxes::{FrameBox, boxes_of};
 use crate::flame_graph::changes::{Totals, draw_changes, join, shown_changes};
 use crate::flame_graph::drawing::Drawing;
@@ -16,8 +17,7 @@ use crate::flame_graph::error::FlameGraphError;
 use crate::flame_graph::numbers::is_shown;
 use crate::flame_graph::picture::draw;
 use crate::flame_graph::stacks::{stacks_in_order, take_before};
-use framehop_folded::changes::Changes;
-use framehop_folded::folded::Folded;
+use crate::folded::Folded;
 use std::alloc::{AllocError, Global};
 
 /// Returns the flame graph of folded stacks: an SVG of 1,220 pixels' width.

@@ -60,7 +60,7 @@ pub fn read_contents<'a>(file: &'a [u8], section: SectionHeader) -> Result<&'a [
 
 /// Returns how many bytes of a section the file has: the smaller of `SizeOfRawData`, which counts padding, and
 /// `VirtualSize`, which counts zeros that are not in the file.
-pub fn size_in_file(section: SectionHeader) -> u32
+pub(crate) fn size_in_file(section: SectionHeader) -> u32
     ensures { result ≡ size_in_file section }
 {
     section.size_of_raw_data.min(section.virtual_size)
