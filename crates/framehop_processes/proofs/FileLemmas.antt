@@ -3,7 +3,7 @@ use Rattle.std.proofs.Common.{◌≡◌, ◌≢◌, ℕ, List, [], ◌∷◌, �
 use Rattle.framehop_processes.specs.ObjectFiles.{Listed, AreTables}
 use Rattle.framehop_processes.specs.Files.{AreDebugTables, debug_tables_in}
 use Rattle.framehop_processes.specs.Source.{SourceView}
-use Rattle.framehop_processes.specs.declared.object_file.Symbols.{Symbols}
+use Rattle.framehop_processes.specs.declared.symbols.Symbols.{Symbols}
 
 pub AreTables-append : (xs ys : List Listed) (ss ts : List Symbols) → AreTables xs ss → AreTables ys ts → AreTables (xs ++ ys) (ss ++ ts)
 AreTables-append [] ys [] ts first second = second

@@ -1,7 +1,7 @@
 -- What was found in a file.
 use Rattle.std.specs.Prelude.{List, length, nat_eq, Bool, not}
 use Rattle.std.specs.List.{list_any}
-use Rattle.framehop_processes.specs.declared.object_file.Symbols.{Symbols}
+use Rattle.framehop_processes.specs.declared.symbols.Symbols.{Symbols}
 
 -- a symbol table has a function
 abbrev pub has_function : Symbols → Bool

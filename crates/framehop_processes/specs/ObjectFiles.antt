@@ -44,7 +44,7 @@ use Rattle.framehop_processes.specs.declared.object_file.ObjectFile.{ObjectFile}
 use Rattle.framehop_processes.specs.declared.object_file.FileProblem.{FileProblem}
 use Rattle.framehop_processes.specs.declared.object_file.FileProblem.TheVariants.{OtherBuildId, Elf, Pe}
 use Rattle.framehop_processes.specs.declared.object_file.Headers.{Headers}
-use Rattle.framehop_processes.specs.declared.object_file.Symbols.{Symbols}
+use Rattle.framehop_processes.specs.declared.symbols.Symbols.{Symbols}
 
 -- a file with its segments
 pub record HeadersView : Type 0 where

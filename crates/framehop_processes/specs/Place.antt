@@ -9,7 +9,7 @@ use Rattle.framehop_processes.specs.CodeMap.{code_name_at}
 use Rattle.framehop_processes.specs.FunctionStart.{function_start_in}
 use Rattle.framehop_processes.specs.declared.code_map.CodeMap.{CodeMap}
 use Rattle.framehop_processes.specs.declared.object_file.ObjectFile.{ObjectFile}
-use Rattle.framehop_processes.specs.declared.object_file.Symbols.{Symbols}
+use Rattle.framehop_processes.specs.declared.symbols.Symbols.{Symbols}
 use Rattle.framehop_processes.specs.declared.files.Files.{Files}
 use Rattle.framehop_processes.specs.declared.files.NamedFile.{NamedFile}
 use Rattle.framehop_processes.specs.declared.place.Place.{Place}

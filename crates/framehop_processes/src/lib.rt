@@ -50,6 +50,7 @@ mod plainness;
 pub mod process;
 pub mod read_refusal;
 pub mod shared;
+mod symbols;
 pub mod unwinder;
 
 pub use error::ProcessesError;

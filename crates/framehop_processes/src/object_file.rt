@@ -7,12 +7,12 @@ ghost use Rattle.std.specs.Result.{result_err};
 ghost use Rattle.framehop_object.specs.Elf.UnwindSections.{bytes_in, bytes_or_none, debug_frame_of};
 ghost use Rattle.framehop_object.specs.declared.elf.error.ElfError.{ElfError};
 ghost use Rattle.framehop_memory.specs.Segment.{base_of};
-ghost use Rattle.framehop_processes.specs.ObjectFiles.{Contents, Listed, headers_view, headers_of, build_id_in, build_id_by, debug_link_in, contents_of, is_another, is_another_file, problem_by, problem_of, is_at_entry, symbols_in, symbols_called, listed, listed_of, tables_of, debug_tables_of, IsTable, AreTables, module_of, module_with, module_in, debug_frame_with, debug_frame_in, bare_module, export_tables_of, elf_contents_of, pe_contents_of, IsOutOfMemory, IsKeptWith, IsKeptOf};
+ghost use Rattle.framehop_processes.specs.ObjectFiles.{Contents, headers_view, headers_of, build_id_in, build_id_by, debug_link_in, contents_of, is_another, is_another_file, problem_by, problem_of, is_at_entry, debug_tables_of, AreTables, module_of, module_with, module_in, debug_frame_with, debug_frame_in, bare_module, export_tables_of, elf_contents_of, pe_contents_of, IsOutOfMemory, IsKeptWith, IsKeptOf};
 ghost use Rattle.framehop_processes.specs.Code.{code_of_object};
 ghost use Rattle.framehop_processes.specs.MappedBytes.{mapped_sections_view};
 ghost use Rattle.framehop_processes.specs.Found.{has_names};
 ghost use Rattle.framehop.specs.Parts.{is_unwind_data};
-ghost use Rattle.framehop_processes.specs.Place.{option_named, label_at, symbol_at, function_at, unnamed_start};
+ghost use Rattle.framehop_processes.specs.Place.{function_at, unnamed_start};
 ghost use Rattle.framehop_processes.specs.declared.object_file.FileProblem.{FileProblem};
 
 use crate::code::{FileCode, code_from, code_of, no_code};
@@ -21,11 +21,11 @@ use crate::function_start::function_start;
 use crate::made_up_id::is_made_up;
 use crate::mapped_bytes::{MappedBytes, kept_sections};
 use crate::pe_file;
-use crate::plainness::by_plainness;
 use crate::read_refusal::ReadRefusal;
+use crate::symbols::{Symbols, kept_symbols, read_all_symbols, read_symbols};
 use framehop::Module;
 use framehop::section::ExplicitModuleSectionInfo;
-use framehop_bytes::string::{before_nul, string_at};
+use framehop_bytes::string::before_nul;
 use framehop_memory::segment::{Segment, base_avma};
 use framehop_object::elf::build_id::read_build_id;
 use framehop_object::elf::decompressed::ContentsError;
@@ -33,11 +33,7 @@ use framehop_object::elf::elf_file::ElfFile;
 use framehop_object::elf::error::ElfError;
 use framehop_object::elf::header::read_file_header;
 use framehop_object::elf::program_header::{ProgramHeader, read_program_headers};
-use framehop_object::elf::section_header::SectionHeader;
 use framehop_object::elf::segment::loaded_segments;
-use framehop_object::elf::symbol::{
-    Symbol, SymbolTable, read_function_symbols, read_labels, read_symbol_names,
-};
 use framehop_object::elf::unwind_sections::{
     debug_frame_sections, has_eh_frame, read_debug_frame, unwind_sections_with,
 };
@@ -51,48 +47,6 @@ use thiserror::Error;
 /// The size of the code from the entry point of a file on in which a process begins, in bytes: a call of it, or a jump, leads
 /// away.
 const ENTRY_SIZE: u64 = 64;
-
-/// The functions and the labels of a symbol table, and the string table that has their names.
-#[derive(Drop)]
-struct Symbols {
-    table: SymbolTable,
-    labels: SymbolTable,
-    names: Vec<u8>,
-}
-
-impl Symbols {
-    /// Returns the name of the function that has an address (SVMA), and how far the address is from its
-    /// start.
-    fn function_at(&self, svma: u64) -> Option<(&[u8], u64)>
-        ensures { option_map (λ found. (found.0.now, found.1)) result
-            ≡ option_named self.now svma (symbol_at self.now svma) }
-    {
-        let symbol = self.symbol_at(svma)?;
-        let name = string_at(self.names.as_slice(), symbol.st_name);
-        Some((name, svma.saturating_sub(symbol.st_value)))
-    }
-
-    /// Returns the symbol of the function that has an address (SVMA), or else of the label before it.
-    fn symbol_at(&self, svma: u64) -> Option<Symbol>
-        ensures { result ≡ symbol_at self.now svma }
-    {
-        match self.table.symbol_for(svma) {
-            Some(symbol) => Some(symbol),
-            None => self.label_at(svma),
-        }
-    }
-
-    /// Returns the label before an address (SVMA), if no function begins after it.
-    fn label_at(&self, svma: u64) -> Option<Symbol>
-        ensures { result ≡ label_at self.now svma }
-    {
-        let label = self.labels.symbol_for(svma)?;
-        match self.table.nearest(svma) {
-            Some(function) if label.st_value <= function.st_value => None,
-            _ => Some(label),
-        }
-    }
-}
 
 /// A file that processes map: its segments with their code, its functions, and its unwind data, which is read once. It owns
 /// all of them; its modules are of the type of those that lend bytes for `'m`.
@@ -427,34 +381,6 @@ fn read_elf<'m>(alloc: Global, bytes: &[u8], wanted: &[u8]) -> Result<ObjectFile
     })
 }
 
-/// Reads the symbols of both symbol tables.
-fn read_all_symbols(alloc: Global, elf: &ElfFile<'_>) -> Result<Vec<Symbols>, ElfError>
-    ensures kept { IfOk result (λ all. AreTables (tables_of elf.now) all.items) }
-    ensures refused { IfErr result (λ error. error ≡ ElfError.OutOfMemory) }
-{
-    let mut all = Vec::new(alloc);
-    push_symbols(alloc, &mut all, elf, b".symtab")?;
-    push_symbols(alloc, &mut all, elf, b".dynsym")?;
-    Ok(all)
-}
-
-/// Appends the symbols of a section of a name, if they can be read.
-fn push_symbols(
-    alloc: Global,
-    all: &mut Vec<Symbols>,
-    elf: &ElfFile<'_>,
-    name: &[u8],
-) -> Result<(), ElfError>
-    ensures kept { (listed : List Listed) → AreTables listed all.old.items → OnOk result
-        (AreTables (listed ++ option_to_list (symbols_called elf.now name.now)) all.new.items) }
-    ensures refused { IfErr result (λ error. error ≡ ElfError.OutOfMemory) }
-{
-    let Some(symbols) = read_symbols(alloc, elf, elf.section(name))? else {
-        return Ok(());
-    };
-    Ok(all.push(symbols)?)
-}
-
 /// What is read of the `.debug_frame` of a file.
 #[derive(Drop)]
 struct Frames {
@@ -646,68 +572,4 @@ fn build_id_of_pe(alloc: Global, file: &[u8]) -> Result<&[u8], AllocError>
         Err(PeError::OutOfMemory) => Err(AllocError),
         Err(_) => Ok(&[]),
     }
-}
-
-/// Reads the symbols of a section, if the file has it. They count as absent where they can't be read.
-#[tactic(auto, unfolding(crate::specs::ObjectFiles::symbols_of))]
-fn read_symbols(
-    alloc: Global,
-    elf: &ElfFile<'_>,
-    section: Option<SectionHeader>,
-) -> Result<Option<Symbols>, ElfError>
-    ensures kept { IfOk result (λ symbols. AreTables (option_to_list (symbols_in elf.now section)) (option_to_list symbols)) }
-    ensures refused { IfErr result (λ error. error ≡ ElfError.OutOfMemory) }
-{
-    let Some(section) = section else {
-        return Ok(None);
-    };
-    let Ok(names) = read_symbol_names(elf, section) else {
-        return Ok(None);
-    };
-    match read_listed(alloc, elf, section, names) {
-        Ok((functions, labels)) => {
-            let symbols = kept_symbols(alloc, functions, labels, names)?;
-            Ok(Some(symbols))
-        }
-        Err(ElfError::OutOfMemory) => Err(ElfError::OutOfMemory),
-        Err(_) => Ok(None),
-    }
-}
-
-/// Reads the functions and the labels of a symbol table, by the string table that has their names.
-#[tactic(auto, unfolding(crate::specs::ObjectFiles::listed_of))]
-fn read_listed(
-    alloc: Global,
-    elf: &ElfFile<'_>,
-    table: SectionHeader,
-    names: &[u8],
-) -> Result<(Vec<Symbol>, Vec<Symbol>), ElfError>
-    ensures { MatchResult result
-        (λ read. listed_of elf.now table names.now ≡ Ok (listed read.0.items read.1.items names.now))
-        (λ error. (error ≡ ElfError.OutOfMemory) ⊎ (listed_of elf.now table names.now ≡ Err error)) }
-{
-    let functions = read_function_symbols(alloc, elf, table)?;
-    let labels = read_labels(alloc, elf, table, names)?;
-    Ok((functions, labels))
-}
-
-/// Keeps the functions and the labels of a symbol table with the strings that have their names.
-fn kept_symbols(
-    alloc: Global,
-    functions: Vec<Symbol>,
-    labels: Vec<Symbol>,
-    names: &[u8],
-) -> Result<Symbols, ElfError>
-    ensures kept { IfOk result (λ symbols. IsTable (listed functions.items labels.items names.now) symbols) }
-    ensures refused { IfErr result (λ error. error ≡ ElfError.OutOfMemory) }
-{
-    let ordered = by_plainness(alloc, functions.as_slice(), names)?;
-    let table = SymbolTable::new(ordered)?;
-    let labels = SymbolTable::new(labels)?;
-    let names = Vec::from_slice(alloc, names)?;
-    Ok(Symbols {
-        table,
-        labels,
-        names,
-    })
 }

@@ -1,6 +1,6 @@
 use Rattle.std.proofs.Common.{[]}
 use Rattle.framehop_processes.specs.ObjectFiles.{AreTables}
-use Rattle.framehop_processes.proofs.object_file.read_all_symbols.Goals as goal
+use Rattle.framehop_processes.proofs.symbols.read_all_symbols.Goals as goal
 
 pub returns-clause-kept : goal.returns-clause-kept
 returns-clause-kept c =

@@ -1,7 +1,7 @@
 use Rattle.std.proofs.Common.{rules, [], ◌∷◌, option_to_list}
 use Rattle.framehop_processes.proofs.FileLemmas.{AreTables-append}
 use Rattle.framehop_processes.specs.ObjectFiles.{symbols_called, AreTables}
-use Rattle.framehop_processes.proofs.object_file.push_symbols.Goals as goal
+use Rattle.framehop_processes.proofs.symbols.push_symbols.Goals as goal
 
 pub returns-clause-kept : goal.returns-clause-kept
 returns-clause-kept c = λ listed tables.
