@@ -1,6 +1,7 @@
 //! Mappings that processes share until one of them maps something.
 ghost use Rattle.std.specs.Prelude.{◌≡◌, ◌<◌, ◌-◌, ◌^◌, ◌++◌, ◌∷◌, [], length, min, IfOk, OnOk};
 ghost use Rattle.framehop_processes.specs.Mappings.{IsInOrder, with_mapping, below, above};
+ghost use Rattle.framehop_processes.specs.Shared.{outweighs};
 
 use crate::around::{part_above, part_below};
 use crate::mapping::Mapping;
@@ -8,7 +9,7 @@ use std::alloc::{AllocError, Global};
 use std::marker::Model;
 use std::rc::Rc;
 
-/// One side of a fork has at most so many times as many mappings as the other.
+/// One side of a fork has at most so many times the weight of the other, which is one more than how many mappings it has.
 ///
 /// Source: Y. Hirai, K. Yamamoto, "Balancing weight-balanced trees", Journal of Functional Programming 21 (2011).
 const DELTA: usize = 3;
@@ -348,6 +349,8 @@ fn forked(
 }
 
 /// Returns whether one side of a fork has too many mappings for those of the other.
-fn outweighs(count: usize, other: usize) -> bool {
+fn outweighs(count: usize, other: usize) -> bool
+    ensures { result ≡ outweighs count other }
+{
     count / DELTA > other
 }
