@@ -33,6 +33,8 @@ mod section_info;
 #[cfg(test)]
 mod sections;
 #[cfg(test)]
+mod shared_mappings;
+#[cfg(test)]
 mod small;
 #[cfg(test)]
 mod texts;
