@@ -7,6 +7,7 @@ mod GraphLemmas
 mod MergeLemmas
 mod OrderLemmas
 mod PictureLemmas
+mod SpeedscopeLemmas
 mod StackLemmas
 mod SweepLemmas
 mod TextLemmas

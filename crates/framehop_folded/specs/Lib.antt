@@ -7,3 +7,4 @@ pub mod Folded
 pub mod Changes
 pub mod Laws
 pub mod FlameGraph
+pub mod Speedscope

@@ -1,5 +1,5 @@
-//! Folded stacks: how often each stack was counted. Reads them as text, adds them up, writes them, and draws them as a flame
-//! graph.
+//! Folded stacks: how often each stack was counted. Reads them as text, adds them up, writes them, draws them as a flame
+//! graph, and makes a file of speedscope of them.
 //!
 //! # Decisions
 //!
@@ -17,4 +17,5 @@ pub mod changes;
 pub mod error;
 pub mod flame_graph;
 pub mod folded;
+pub mod speedscope;
 pub mod text;

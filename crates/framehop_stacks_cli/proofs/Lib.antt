@@ -1,3 +1,2 @@
 -- Lemmas of this crate.
 pub mod CommandLineLemmas
-pub mod SpeedscopeLemmas

@@ -8,6 +8,5 @@ pub mod Misuse
 pub mod Options
 pub mod RecordingParts
 pub mod Samples
-pub mod Speedscope
 pub mod Stacks
 pub mod Statuses

@@ -20,7 +20,6 @@ mod recordings;
 mod request;
 mod samples;
 mod sources;
-mod speedscope;
 mod statuses;
 
 use arguments::command;

@@ -4,7 +4,6 @@ ghost use Rattle.framehop_stacks_cli.specs.Statuses.{dump_status, graph_status, 
 
 use crate::form::Form;
 use crate::request::{Request, refuse_by, refuse_file_by};
-use crate::speedscope::speedscope_file;
 use framehop_cli::{Result, StandardOutput};
 use framehop_disk::messages::Messages;
 use framehop_dump_stacks::error::DumpStacksError;
@@ -12,6 +11,7 @@ use framehop_folded::changes::Changes;
 use framehop_folded::flame_graph::error::FlameGraphError;
 use framehop_folded::flame_graph::svg::{change_graph, flame_graph};
 use framehop_folded::folded::Folded;
+use framehop_folded::speedscope::speedscope_file;
 use framehop_output::Output;
 use framehop_perf_stacks::error::StacksError;
 use std::io;

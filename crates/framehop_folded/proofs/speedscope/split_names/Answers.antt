@@ -2,7 +2,7 @@ use Rattle.std.proofs.Common.{rules, tests}
 use Rattle.std.specs.Prelude.{◌==◌}
 use Rattle.std.proofs.lemmas.Iterator.Consumers.{map_from_collect}
 use Rattle.std.proofs.lemmas.Iterator.Splits.{YieldsList-from_slice_split}
-use Rattle.framehop_stacks_cli.proofs.speedscope.split_names.Goals as goal
+use Rattle.framehop_folded.proofs.speedscope.split_names.Goals as goal
 
 pub returns : goal.returns
 returns c =

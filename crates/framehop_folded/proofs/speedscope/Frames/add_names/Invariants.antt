@@ -1,6 +1,6 @@
 use Rattle.std.proofs.Common.{ℕ, List, map, take}
-use Rattle.framehop_stacks_cli.specs.Speedscope.{AreFrames, with_names}
-use Rattle.framehop_stacks_cli.proofs.speedscope.Frames.add_names.Given as goal
+use Rattle.framehop_folded.specs.Speedscope.{AreFrames, with_names}
+use Rattle.framehop_folded.proofs.speedscope.Frames.add_names.Given as goal
 
 -- the frames are those of the names so far
 abbrev pub invariant-loop-name : goal.invariant-loop-name

@@ -1,13 +1,13 @@
 //! Folded stacks as speedscope reads them.
-ghost use Rattle.std.specs.Prelude.{ℕ, ◌≡◌, ◌≤◌, ◌==◌, ◌∷◌, [], List, length, map, IfOk, OnOk, false, string_bytes, unwrap_or, sum_by};
+ghost use Rattle.std.specs.Prelude.{ℕ, ◌≡◌, ◌≤◌, ◌==◌, ◌∷◌, ◌++◌, [], List, length, map, IfOk, OnOk, false, true, string_bytes, unwrap_or, sum_by};
 ghost use Rattle.std.specs.Io.Iter.{u64_saturate};
 ghost use Rattle.std.specs.List.{position_or_len, slice_split};
 ghost use Rattle.serde_json.specs.View.{view};
 ghost use Rattle.serde_json.specs.Written.{compact_text};
 ghost use Rattle.framehop_folded.specs.Folded.{entries_of};
-ghost use Rattle.framehop_stacks_cli.specs.Speedscope.{stack_view, stack_of, stacks_of, names_of, number_in, with_name, with_names, names_among, frame_data, AreFrames, list_data, number_data, sample_data, profile_data, profile_with, file_data, file_of};
+ghost use Rattle.framehop_folded.specs.Speedscope.{StackView, stack_view, stack_of, stacks_of, names_of, number_in, with_name, with_names, names_among, frame_data, AreFrames, list_data, number_data, sample_data, profile_data, profile_with, file_data, file_of, AreThreadProfiles, AreByThread, IsFileByThread};
 
-use framehop_folded::folded::Folded;
+use crate::folded::Folded;
 use serde_json::{Value, json};
 use std::alloc::{AllocError, Global};
 use std::collections::BTreeMap;
@@ -25,8 +25,10 @@ pub fn speedscope_file(
     title: &str,
     by_thread: bool,
 ) -> Result<String, AllocError>
-    ensures { by_thread ≡ false → IfOk result (λ text. string_bytes text
+    ensures whole { by_thread ≡ false → IfOk result (λ text. string_bytes text
         ≡ compact_text (file_of title.now (stacks_of title.now by_thread (entries_of folded.now)))) }
+    ensures threads { by_thread ≡ true → IfOk result (λ text.
+        IsFileByThread title.now (stacks_of title.now by_thread (entries_of folded.now)) (string_bytes text)) }
 {
     let stacks = stacks_of(alloc, folded, title, by_thread)?;
     let frames = frames_of(alloc, stacks.as_slice())?;
@@ -209,11 +211,13 @@ fn profiles_of(
     by_thread: bool,
     stacks: &[Stack<'_>],
 ) -> Result<Vec<Value>, AllocError>
-    ensures { (names : List (List ℕ)) → AreFrames names frames.now → by_thread ≡ false
+    ensures whole { (names : List (List ℕ)) → AreFrames names frames.now → by_thread ≡ false
         → IfOk result (λ profiles. map view profiles.items ≡ profile_data names title.now (map stack_view stacks.now) ∷ []) }
+    ensures threads { (names : List (List ℕ)) → AreFrames names frames.now → by_thread ≡ true
+        → IfOk result (λ profiles. AreThreadProfiles names (map stack_view stacks.now) (map view profiles.items)) }
 {
     if by_thread {
-        return profiles_by_name(alloc, frames, stacks);
+        return thread_profiles(alloc, frames, stacks);
     }
     one_profile(alloc, frames, title, stacks)
 }
@@ -233,24 +237,51 @@ fn one_profile(
     Ok(profiles)
 }
 
-/// Returns the profiles of stacks, in the order of their names.
-fn profiles_by_name(
+/// Returns a profile for each thread of stacks, in the order of the threads' names.
+fn thread_profiles(
     alloc: Global,
     frames: &Frames,
     stacks: &[Stack<'_>],
-) -> Result<Vec<Value>, AllocError> {
-    let mut by_name: BTreeMap<&[u8], Vec<Stack<'_>>> = BTreeMap::new(alloc);
-    for stack in stacks {
-        by_name
-            .entry(stack.profile)?
-            .or_insert(Vec::new(alloc))
-            .push(*stack)?;
-    }
+) -> Result<Vec<Value>, AllocError>
+    ensures { (names : List (List ℕ)) → AreFrames names frames.now
+        → IfOk result (λ profiles. AreThreadProfiles names (map stack_view stacks.now) (map view profiles.items)) }
+{
+    let by_thread = stacks_by_thread(alloc, stacks)?;
     let mut profiles = Vec::new(alloc);
-    for (name, stacks) in by_name {
-        profiles.push(profile_value(alloc, frames, name, stacks.as_slice())?)?;
+    for (thread, stacks) in by_thread.iter() {
+        profiles.push(profile_value(alloc, frames, thread, stacks.as_slice())?)?;
     }
     Ok(profiles)
+}
+
+/// Returns the stacks of each thread, in their order.
+fn stacks_by_thread<'a>(
+    alloc: Global,
+    stacks: &[Stack<'a>],
+) -> Result<BTreeMap<&'a [u8], Vec<Stack<'a>>>, AllocError>
+    ensures { IfOk result (AreByThread (map stack_view stacks.now)) }
+{
+    let mut by_thread = BTreeMap::new(alloc);
+    for stack in stacks {
+        add_stack(alloc, *stack, &mut by_thread)?;
+    }
+    Ok(by_thread)
+}
+
+/// Adds a stack to those of its thread.
+fn add_stack<'a>(
+    alloc: Global,
+    stack: Stack<'a>,
+    by_thread: &mut BTreeMap<&'a [u8], Vec<Stack<'a>>>,
+) -> Result<(), AllocError>
+    ensures { (stacks : List StackView) → AreByThread stacks by_thread.old
+        → OnOk result (AreByThread (stacks ++ stack_view stack.entry ∷ []) by_thread.new) }
+{
+    let before = by_thread.remove(stack.profile);
+    let mut stacks = before.unwrap_or(Vec::new(alloc));
+    stacks.push(stack)?;
+    by_thread.insert(stack.profile, stacks)?;
+    Ok(())
 }
 
 /// Returns a profile as speedscope reads it. The unit is `none`: a weight is a number of samples.

@@ -1,7 +1,7 @@
 use Rattle.std.proofs.Common.{◌≡◌, ℕ, List, map, take}
 use Rattle.serde_json.specs.View.{view}
-use Rattle.framehop_stacks_cli.specs.Speedscope.{AreFrames, sample_data, stack_view}
-use Rattle.framehop_stacks_cli.proofs.speedscope.samples_of.Given as goal
+use Rattle.framehop_folded.specs.Speedscope.{AreFrames, sample_data, stack_view}
+use Rattle.framehop_folded.proofs.speedscope.samples_of.Given as goal
 
 abbrev pub invariant-loop-stack : goal.invariant-loop-stack
 invariant-loop-stack l = (names : List (List ℕ)) → AreFrames names l.frames

@@ -1,6 +1,6 @@
 use Rattle.std.proofs.Common.{[], map, take}
-use Rattle.framehop_stacks_cli.specs.Speedscope.{AreFrames, names_among, stack_view}
-use Rattle.framehop_stacks_cli.proofs.speedscope.frames_of.Given as goal
+use Rattle.framehop_folded.specs.Speedscope.{AreFrames, names_among, stack_view}
+use Rattle.framehop_folded.proofs.speedscope.frames_of.Given as goal
 
 -- the frames are those of the stacks so far
 abbrev pub invariant-loop-stack : goal.invariant-loop-stack

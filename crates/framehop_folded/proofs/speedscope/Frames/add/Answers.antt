@@ -1,8 +1,8 @@
 use Rattle.std.proofs.Common.{◌≡◌, ◌∙◌, ap, sym, length, rules, false}
 use Rattle.std.specs.Prelude.{is_some}
-use Rattle.framehop_stacks_cli.specs.Speedscope.{number_in}
-use Rattle.framehop_stacks_cli.proofs.SpeedscopeLemmas.{added, count_of}
-use Rattle.framehop_stacks_cli.proofs.speedscope.Frames.add.Goals as goal
+use Rattle.framehop_folded.specs.Speedscope.{number_in}
+use Rattle.framehop_folded.proofs.SpeedscopeLemmas.{added, count_of}
+use Rattle.framehop_folded.proofs.speedscope.Frames.add.Goals as goal
 
 pub returns : goal.returns
 returns c = λ names are.

@@ -1,6 +1,6 @@
 use Rattle.std.proofs.Common.{◌≡◌, ◌++◌, map}
-use Rattle.framehop_stacks_cli.specs.Speedscope.{stack_view, stacks_of}
-use Rattle.framehop_stacks_cli.proofs.speedscope.stacks_of.Given as goal
+use Rattle.framehop_folded.specs.Speedscope.{stack_view, stacks_of}
+use Rattle.framehop_folded.proofs.speedscope.stacks_of.Given as goal
 
 -- the stacks so far before those that are left are all
 abbrev pub invariant-loop-stack : goal.invariant-loop-stack

@@ -1,18 +1,21 @@
 -- Folded stacks as a file of speedscope (https://www.speedscope.app/file-format-schema.json, `File`, `SampledProfile`).
-use Rattle.std.specs.Prelude.{ℕ, ◌≡◌, ◌==◌, nat_eq, Bool, List, [], ◌∷◌, ◌++◌, length, map, codes, Option, is_some, unwrap_or, sum_by, if◌then◌else◌}
-use Rattle.std.specs.BTreeMap.{get_by}
+use denote.Ref.{Bor}
+use Rattle.std.specs.Prelude.{ℕ, ◌≡◌, ◌+◌, ◌==◌, nat_eq, Bool, List, [], ◌∷◌, ◌++◌, length, map, take, drop, codes, Option, Some, None, is_some, option_map, unwrap_or, sum_by, if◌then◌else◌}
+use Rattle.std.specs.BTreeMap.{BTreeMap, get_by}
 use Rattle.std.specs.Cmp.Lexicographic.{pointwise, slice_cmp}
 use Rattle.std.specs.Global.{Global}
 use Rattle.std.specs.Io.Iter.{u64_saturate}
-use Rattle.std.specs.List.{fold, position, slice_split}
+use Rattle.std.specs.List.{filter, fold, list_any, position, position_or_len}
+use Rattle.std.specs.List.Sorted.{IsStrictlySortedBy}
 use Rattle.std.specs.Ordering.{nat_cmp}
 use Rattle.std.specs.Str.Lossy.{utf8_lossy}
 use Rattle.std.specs.declared.vec.Vec.{Vec}
 use Rattle.serde_json.specs.Data.{Data, number, unsigned, string, array, object, member, no_members}
 use Rattle.serde_json.specs.View.{view, items_of}
-use Rattle.framehop_perf_stacks.specs.Window.{before_byte, after_byte}
-use Rattle.framehop_stacks_cli.specs.declared.speedscope.Frames.{Frames}
-use Rattle.framehop_stacks_cli.specs.declared.speedscope.Stack.{Stack}
+use Rattle.serde_json.specs.Written.{compact_text}
+use Rattle.framehop_folded.specs.FlameGraph.Stacks.{frames_of}
+use Rattle.framehop_folded.specs.declared.speedscope.Frames.{Frames}
+use Rattle.framehop_folded.specs.declared.speedscope.Stack.{Stack}
 
 -- ---- stacks
 
@@ -25,10 +28,17 @@ pub record StackView : Type 0 where
 abbrev pub stack_view : Stack → StackView
 stack_view stack = record { profile = stack.profile.now; frames = stack.frames.now; count = stack.count }
 
+-- the outermost frame of a folded stack, and the frames inside it: all and none where it has no `;`
+abbrev pub outermost : List ℕ → List ℕ
+outermost stack = take (position_or_len (λ byte. byte == 59) stack) stack
+
+abbrev pub inside : List ℕ → List ℕ
+inside stack = drop (position_or_len (λ byte. byte == 59) stack + 1) stack
+
 -- a folded stack is one of the profile of a title or, of a thread, of the profile of its outermost frame
 abbrev pub stack_of : List ℕ → Bool → List ℕ → ℕ → StackView
 stack_of title by_thread stack count = if by_thread
-    then record { profile = before_byte 59 stack; frames = after_byte 59 stack; count = count }
+    then record { profile = outermost stack; frames = inside stack; count = count }
     else record { profile = title; frames = stack; count = count }
 
 abbrev pub stacks_of : List ℕ → Bool → List (Vec ℕ Global × ℕ) → List StackView
@@ -36,7 +46,7 @@ stacks_of title by_thread entries = map (λ entry. stack_of title by_thread entr
 
 -- the names of its frames, from the outermost on
 abbrev pub names_of : List ℕ → List (List ℕ)
-names_of frames = if length frames == 0 then [] else slice_split (λ byte. byte == 59) frames
+names_of frames = if length frames == 0 then [] else frames_of frames
 
 -- ---- frames
 
@@ -98,6 +108,47 @@ file_data title names profiles = object (
     member (codes "profiles") (array (items_of profiles)) (
     member (codes "shared") (object (member (codes "frames") (list_data frame_data names) no_members)) no_members))))))
 
+-- ---- threads
+
+-- the stacks of a thread
+abbrev pub stacks_in : List ℕ → List StackView → List StackView
+stacks_in thread stacks = filter (λ stack. pointwise nat_eq stack.profile thread) stacks
+
+-- the threads of stacks, each once, in the order of the bytes of their names
+pub record AreThreads (stacks : List StackView) (threads : List (List ℕ)) : Type 0 where
+  pub ordered : IsStrictlySortedBy (slice_cmp nat_cmp) threads
+  pub all : (thread : List ℕ)
+      → list_any (λ one. pointwise nat_eq thread one) threads ≡ list_any (λ stack. pointwise nat_eq stack.profile thread) stacks
+
+-- a profile for each thread, of its stacks
+abbrev pub thread_profiles : List (List ℕ) → List StackView → List (List ℕ) → List Data
+thread_profiles names stacks threads = map (λ thread. profile_data names thread (stacks_in thread stacks)) threads
+
+abbrev pub AreThreadProfiles : List (List ℕ) → List StackView → List Data → Type 0
+AreThreadProfiles names stacks profiles =
+    (threads : List (List ℕ)) × AreThreads stacks threads × (profiles ≡ thread_profiles names stacks threads)
+
+-- stacks by their threads: of each thread that has some those that it has
+abbrev pub some_of : List StackView → Option (List StackView)
+some_of [] = None
+some_of (stack ∷ stacks) = Some (stack ∷ stacks)
+
+abbrev pub AreByThread : List StackView → BTreeMap (Bor (List ℕ)) (Vec Stack Global) → Type 0
+AreByThread stacks by_thread = (thread : List ℕ)
+    → option_map (λ found. map stack_view found.items) (get_by (λ key. slice_cmp nat_cmp thread key.now) by_thread)
+    ≡ some_of (stacks_in thread stacks)
+
+-- ---- files
+
 -- the file of stacks that are all of one profile
 abbrev pub file_of : List ℕ → List StackView → Data
 file_of title stacks = file_data title (names_among [] stacks) (profile_data (names_among [] stacks) title stacks ∷ [])
+
+-- a file of stacks that has a profile for each thread
+abbrev pub file_with : List ℕ → List StackView → List (List ℕ) → Data
+file_with title stacks threads =
+    file_data title (names_among [] stacks) (thread_profiles (names_among [] stacks) stacks threads)
+
+abbrev pub IsFileByThread : List ℕ → List StackView → List ℕ → Type 0
+IsFileByThread title stacks text =
+    (threads : List (List ℕ)) × AreThreads stacks threads × (text ≡ compact_text (file_with title stacks threads))
