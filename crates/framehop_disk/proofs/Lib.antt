@@ -7,3 +7,4 @@ pub mod PlacesLemmas
 pub mod InputLemmas
 pub mod CorePartsLemmas
 pub mod PrintedLemmas
+pub mod RecordingFrameLemmas

@@ -9,6 +9,7 @@ pub mod Paths
 pub mod Places
 pub mod Printed
 pub mod ReadPaths
+pub mod RecordingFrame
 pub mod Segments
 pub mod Unasked
 pub mod Wanted

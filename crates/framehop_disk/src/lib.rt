@@ -14,6 +14,7 @@ mod paths;
 mod places;
 pub mod printed;
 pub mod read_paths;
+pub mod recording_frame;
 mod segments;
 mod unasked;
 mod wanted;

@@ -2,11 +2,15 @@
 ghost use Rattle.std.specs.Prelude.{◌≡◌, ◌++◌, length, map, IfOk, OnOk};
 ghost use Rattle.framehop_recording.specs.Attributes.{attribute_view};
 ghost use Rattle.framehop_recording.specs.Records.{record_view, run_of};
-ghost use Rattle.framehop_stacks_cli.specs.RecordingParts.{after_records, body_size, is_read_in_parts, kept_from, whole, whole_records};
+ghost use Rattle.framehop_disk.specs.RecordingFrame.{whole_records};
+ghost use Rattle.framehop_stacks_cli.specs.RecordingParts.{kept_from, whole};
 
+use framehop_disk::recording_frame::{
+    RECORD_HEADER_SIZE, after_records, body_size, frame_of, is_read_in_parts, left_after, piece_of,
+    size_of_whole_records,
+};
 use framehop_perf_stacks::kept::KeptRecords;
 use framehop_perf_stacks::sample_source::SampleSource;
-use framehop_recording::error::RecordingError;
 use framehop_recording::events::Events;
 use framehop_recording::header::{Header, Section, read_header};
 use framehop_recording::records::{Record, read_records};
@@ -17,23 +21,8 @@ use std::io::ErrorKind;
 use std::os::unix::fs::FileExt;
 use std::{fs, io};
 
-/// The size of the smallest file that is read in parts, in bytes: 1 MiB.
-const SMALLEST_FILE: u64 = 0x10_0000;
-
-/// How many bytes of records are read at a time: 1 MiB.
-const PIECE: u64 = 0x10_0000;
-
-/// The most bytes before and after the records: 64 MiB.
-const LARGEST_FRAME: u64 = 0x400_0000;
-
 /// The size of a recording's header, in bytes.
 const HEADER_SIZE: u64 = 104;
-
-/// The size of where a section lies, in bytes: `perf_file_section`.
-const SECTION_SIZE: usize = 16;
-
-/// The size of a record's header, in bytes: `perf_event_header`.
-const RECORD_HEADER_SIZE: usize = 8;
 
 /// A recording of which all is read but its records.
 #[derive(Drop)]
@@ -108,18 +97,17 @@ impl RecordingParts {
     ) -> io::Result<Option<KeptRecords>> {
         let mut kept = KeptRecords::new(alloc);
         let mut piece = Vec::new(alloc);
-        let (mut at, mut left) = (self.records.offset, self.records.size);
+        let mut left = self.records;
         for _piece in 0..self.records.size {
-            let size = left.min(PIECE);
-            self.fill(&mut piece, at, size)?;
-            let is_last = size == left;
-            let taken = keep_records(alloc, events, piece.as_slice(), at, is_last, &mut kept)?;
+            let Section { offset, size } = piece_of(left);
+            self.fill(&mut piece, offset, size)?;
+            let is_last = size == left.size;
+            let taken = keep_records(alloc, events, piece.as_slice(), offset, is_last, &mut kept)?;
             let Some(taken) = taken else {
                 return Ok(None);
             };
-            at = at.saturating_add(taken);
-            left = left.saturating_sub(taken);
-            if left == 0 {
+            left = left_after(left, taken);
+            if left.size == 0 {
                 break;
             }
         }
@@ -215,33 +203,6 @@ impl SampleBodies<'_> {
     }
 }
 
-/// Returns how many bytes the body of a record has, by its header.
-fn body_size(header: &[u8; RECORD_HEADER_SIZE]) -> usize
-    ensures { result ≡ body_size header.now }
-{
-    let [_, _, _, _, _, _, low, high] = *header;
-    usize::from(u16::from_le_bytes([low, high])).saturating_sub(RECORD_HEADER_SIZE)
-}
-
-/// Returns whether a file of a size is read in parts.
-fn is_read_in_parts(is_regular: bool, size: u64) -> bool
-    ensures { result ≡ is_read_in_parts is_regular size }
-{
-    is_regular && size >= SMALLEST_FILE
-}
-
-/// Returns how many bytes the whole records of a piece take, by the piece's size, whether it is the last, and the refusal at its
-/// end. `None` where a record is refused that is not only cut off by the end of the piece.
-fn size_of_whole_records(size: u64, is_last: bool, refusal: Option<RecordingError>) -> Option<u64>
-    ensures { result ≡ whole_records size is_last refusal }
-{
-    match refusal {
-        None => Some(size),
-        Some(RecordingError::Eof { offset }) if !is_last && offset > 0 => Some(offset),
-        Some(_) => None,
-    }
-}
-
 /// Reads the header of a recording.
 fn read_header_of(alloc: Global, file: &File) -> io::Result<Option<Header>> {
     let start = read_at(alloc, file, 0, HEADER_SIZE)?;
@@ -259,55 +220,9 @@ fn read_frame(
     let Some(rest) = after_records(header.records, size) else {
         return Ok(None);
     };
-    let mut frame = read_at(alloc, file, 0, header.records.offset)?;
+    let before = read_at(alloc, file, 0, header.records.offset)?;
     let after = read_at(alloc, file, rest.offset, rest.size)?;
-    frame.extend_from_slice(after.as_slice())?;
-    if move_sections(frame.as_mut_slice(), header) {
-        Ok(Some(frame))
-    } else {
-        Ok(None)
-    }
-}
-
-/// Returns where what is after the records of a file of a size lies. `None` where the file ends before they do, or much is before or
-/// after them.
-fn after_records(records: Section, size: u64) -> Option<Section>
-    ensures { result ≡ after_records records size }
-{
-    let end = records.offset.checked_add(records.size)?;
-    let left = size.checked_sub(end)?;
-    if left > LARGEST_FRAME || records.offset > LARGEST_FRAME {
-        return None;
-    }
-    Some(Section {
-        offset: end,
-        size: left,
-    })
-}
-
-/// Moves the sections after the records of a recording to where they are without its records. Returns whether all of them are
-/// after the records.
-fn move_sections(frame: &mut [u8], header: &Header) -> bool {
-    let records = header.records;
-    let Some(sections) = frame.get_mut(records.offset as usize..) else {
-        return false;
-    };
-    let count = header.features.count_ones() as usize;
-    let Some(sections) = sections.get_mut(..SECTION_SIZE * count) else {
-        return false;
-    };
-    for section in sections.chunks_exact_mut(SECTION_SIZE) {
-        let Some((offset, _)) = section.split_first_chunk_mut::<8>() else {
-            return false;
-        };
-        let end = records.offset.saturating_add(records.size);
-        let place = u64::from_le_bytes(*offset);
-        if place < end {
-            return false;
-        }
-        *offset = (place - records.size).to_le_bytes();
-    }
-    true
+    Ok(frame_of(header, before, after.as_slice())?)
 }
 
 /// Reads so many bytes of a file from an offset on.
