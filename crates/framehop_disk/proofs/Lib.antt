@@ -8,3 +8,4 @@ pub mod InputLemmas
 pub mod CorePartsLemmas
 pub mod PrintedLemmas
 pub mod RecordingFrameLemmas
+pub mod CountedLemmas

@@ -86,3 +86,7 @@ AreBesideFiles file loaded segments =
 abbrev pub AreApart : List ℕ → List ProgramHeader → ℕ → List WantedSegment → Type 0
 AreApart front headers size segments =
     (loaded : List LoadedSegment) × AreSegments size headers loaded × AreBesideFiles front loaded segments
+
+-- the same by program headers that were read
+abbrev pub AreApartBy : List ℕ → ℕ → List WantedSegment → Type 0
+AreApartBy front size segments = (headers : List ProgramHeader) × AreApart front headers size segments

@@ -1,13 +1,15 @@
 -- Which files of a disk are read, and which of them is the one that is wanted.
-use Rattle.std.specs.Prelude.{ℕ, ◌==◌, Bool, true, false, not, ◌&&◌, ◌||◌, nat_eq, nat_lt, List, codes, Option, Some, None, Result, Ok, Err, if◌then◌else◌}
+use denote.Ref.{Bor}
+use Rattle.std.specs.Prelude.{ℕ, ◌≡◌, ◌==◌, Bool, true, false, not, ◌&&◌, ◌||◌, nat_eq, nat_lt, List, codes, Option, Some, None, Result, Ok, Err, if◌then◌else◌}
 use Rattle.std.specs.Cmp.Lexicographic.{pointwise}
+use Rattle.std.specs.Str.{IsUtf8}
 use Rattle.std.specs.declared.io.ErrorKind.{ErrorKind}
 use Rattle.std.specs.declared.io.ErrorKind.TheVariants as kind
 use Rattle.framehop_processes.specs.ObjectFiles.{build_id_by, contents_of}
 use Rattle.framehop_processes.specs.MadeUpId.{is_made_up}
 use Rattle.framehop_processes.specs.declared.read_refusal.ReadRefusal.{ReadRefusal}
 use Rattle.framehop_processes.specs.declared.read_refusal.ReadRefusal.TheVariants.{NotThere, NotRegular, Refused}
-use Rattle.framehop_disk.specs.Paths.{file_name, is_below, is_empty}
+use Rattle.framehop_disk.specs.Paths.{file_name, folder, is_below, is_empty, is_file_name}
 use Rattle.framehop_disk.specs.declared.disk.ReadFile.{ReadFile}
 use Rattle.framehop_disk.specs.declared.disk.Worth.{Worth}
 use Rattle.framehop_disk.specs.declared.disk.Worth.TheVariants as worth
@@ -24,6 +26,20 @@ is_of_kernel path = is_below path (codes "/proc") || is_below path (codes "/sys"
 -- a root that leads to all files
 abbrev pub is_whole : List ℕ → Bool
 is_whole root = is_empty root || is_same root (codes "/")
+
+-- The file of a path without links may be read below a root: below the root's path without links, where that is known. A root that
+-- leads to all files leads to none that the kernel makes up.
+abbrev pub is_below_known : Option (List ℕ) → List ℕ → Bool
+is_below_known None path = false
+is_below_known (Some real) path = is_below path real
+
+abbrev pub is_readable : List ℕ → Option (List ℕ) → List ℕ → Bool
+is_readable root real path = if is_whole root then not (is_of_kernel path) else is_below_known real path
+
+-- a link to a debug file names one beside the file that has the link: the folder of that, and the name
+abbrev pub IsLinked : List ℕ → List ℕ → Bor (List ℕ) × Bor (List ℕ) → Type 0
+IsLinked name link found =
+    (found.0.now ≡ folder name) × (found.1.now ≡ link) × (is_file_name link ≡ true) × IsUtf8 name × IsUtf8 link
 
 -- why a file is not read, by what a system tells of it: it is no regular file, has no bytes, or more than 4 GiB
 abbrev pub regular_refusal : Bool → ℕ → Option ReadRefusal
@@ -71,6 +87,14 @@ worth_of (Ok read) true = worth.Wanted
 worth_of (Ok read) false = worth.Other
 worth_of (Err NotThere) wanted = worth.Nothing
 worth_of (Err _) wanted = worth.Refused
+
+-- by the build id that is wanted
+abbrev pub is_read_and_wanted : List ℕ → Result ReadFile ReadRefusal → Bool
+is_read_and_wanted build_id (Ok file) = is_wanted build_id file.bytes.items
+is_read_and_wanted build_id (Err refusal) = false
+
+abbrev pub worth_by : List ℕ → Result ReadFile ReadRefusal → Worth
+worth_by build_id read = worth_of read (is_read_and_wanted build_id read)
 
 abbrev pub rank : Worth → ℕ
 rank worth.Nothing = 0

@@ -1,5 +1,6 @@
 -- What the contracts of this crate cite: which files are read, where, and which of their parts.
 pub mod CoreParts
+pub mod Counted
 pub mod Disk
 pub mod Gaps
 pub mod Inputs

@@ -1,14 +1,20 @@
 -- Where the headers of an ELF file are, which parts of it are read, and where its sections are told to be then.
-use Rattle.std.specs.Prelude.{ℕ, ◌+◌, ◌-◌, ◌*◌, ◌==◌, Bool, not, ◌&&◌, ◌||◌, nat_eq, nat_le, List, [], ◌∷◌, ◌++◌, length, take, drop, max, codes, slice_get, Option, Some, None, if◌then◌else◌}
+use Rattle.std.specs.Prelude.{ℕ, ◌+◌, ◌-◌, ◌*◌, ◌==◌, Bool, not, ◌&&◌, ◌||◌, nat_eq, nat_le, List, [], ◌∷◌, ◌++◌, length, take, drop, max, codes, slice_get, Option, Some, None, Result, Ok, Err, if◌then◌else◌}
 use Rattle.std.specs.Int.{to_le_bytes, w64}
 use Rattle.std.specs.List.{starts_with}
 use Rattle.std.specs.declared.ops.Range.{Range}
+use Rattle.framehop_object.specs.Elf.ProgramHeader.{program_headers_of}
+use Rattle.framehop_object.specs.Elf.SectionHeader.{section_headers_of}
+use Rattle.framehop_object.specs.declared.elf.error.ElfError.{ElfError}
 use Rattle.framehop_object.specs.declared.elf.header.FileHeader.{FileHeader}
+use Rattle.framehop_object.specs.declared.elf.program_header.ProgramHeader.{ProgramHeader}
 use Rattle.framehop_object.specs.declared.elf.section_header.SectionHeader.{SectionHeader}
 use Rattle.framehop_object.specs.Pe.Header.{is_pe}
 use Rattle.framehop_disk.specs.declared.gaps.Gap.{Gap}
 use Rattle.framehop_disk.specs.Gaps.{begins_at, moved}
-use Rattle.framehop_disk.specs.Unasked.{is_inside}
+use Rattle.framehop_disk.specs.Disk.{build_id_in}
+use Rattle.framehop_disk.specs.Paths.{is_empty}
+use Rattle.framehop_disk.specs.Unasked.{end_of_code, is_inside}
 use Rattle.framehop_disk.specs.Wanted.{sum_64}
 
 -- a file may be an ELF or a PE file, by its first bytes
@@ -49,6 +55,18 @@ headers_place header size =
     if nat_le FILE_HEADER header.e_shoff && not (header.e_shnum == 0) && nat_le (sum_64 header.e_shoff (headers_size header)) size
     then Some (record { start = header.e_shoff; end = sum_64 header.e_shoff (headers_size header) }) else None
 
+-- where the code and the notes of a file end, or its first bytes where that is later, by the program headers in these
+abbrev pub code_end_of : ℕ → Result (List ProgramHeader) ElfError → Option ℕ
+code_end_of size (Ok headers) = Some (end_of_code size headers)
+code_end_of size (Err refusal) = None
+
+abbrev pub code_end_by : List ℕ → FileHeader → Option ℕ
+code_end_by front header = code_end_of (length front) (program_headers_of front header)
+
+-- the section headers in a table that begins as many bytes before them as a file header has
+abbrev pub headers_in : List ℕ → FileHeader → Result (List SectionHeader) ElfError
+headers_in table header = section_headers_of table (record header { e_shoff = FILE_HEADER })
+
 -- the names of sections are read up to this size: 16 MiB
 abbrev pub LARGEST_NAMES : ℕ
 LARGEST_NAMES = 0x1000000
@@ -62,6 +80,10 @@ abbrev pub names_section : FileHeader → List SectionHeader → ℕ → Option 
 names_section header headers size = names_if size (slice_get headers header.e_shstrndx)
 
 -- ---- parts
+
+-- only of a file with a build id parts are left out
+abbrev pub has_build_id : List ℕ → Bool
+has_build_id file = not (is_empty (build_id_in file))
 
 -- what is read of a file of a size: what is before, between and after the gaps
 abbrev pub kept_from : ℕ → ℕ → List Gap → List (Range ℕ)

@@ -2,7 +2,7 @@
 ghost use Rattle.std.specs.Prelude.{◌≡◌, IfOk, IfSome, MatchOption, true};
 ghost use Rattle.std.specs.List.{list_any};
 ghost use Rattle.std.specs.List.Sorted.{IsNonDecreasingBy};
-ghost use Rattle.framehop_disk.specs.CoreParts.{AreApart, AreBesideFiles, AreMapped, AreSegments, HasNone, HasNotes, IsOfCore, headers_end, most_rounds};
+ghost use Rattle.framehop_disk.specs.CoreParts.{AreApart, AreApartBy, AreBesideFiles, AreMapped, AreSegments, HasNone, HasNotes, IsOfCore, headers_end, most_rounds};
 ghost use Rattle.framehop_disk.specs.Segments.{is_cut_off};
 ghost use Rattle.framehop_disk.specs.Wanted.{has_new, parts_from, start_of, wanting_all};
 
@@ -82,7 +82,10 @@ impl CoreParts {
     }
 
     /// Reads the headers and the notes of a core file of a size.
-    fn read(alloc: Global, file: File, size: u64) -> io::Result<Option<CoreParts>> {
+    fn read(alloc: Global, file: File, size: u64) -> io::Result<Option<CoreParts>>
+        ensures size { IfOk result (λ found. IfSome found (λ parts. parts.size ≡ size)) }
+        ensures apart { IfOk result (λ found. IfSome found (λ parts. AreApartBy parts.front.items size parts.segments.items)) }
+    {
         let mut file = file;
         let Some(front) = read_front_of_core(alloc, &mut file, size)? else {
             return Ok(None);

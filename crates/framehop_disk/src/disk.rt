@@ -1,7 +1,9 @@
 //! The files of a disk that processes map.
-ghost use Rattle.std.specs.Prelude.{◌≡◌, IfOk, MatchResult, Some, None, nat_lt, option_map, if◌then◌else◌};
+ghost use Rattle.std.specs.Prelude.{◌≡◌, IfOk, IfSome, IsSome, MatchResult, Some, None, nat_lt, option_map, true, if◌then◌else◌};
 ghost use Rattle.std.specs.IoError.{error_kind};
-ghost use Rattle.framehop_disk.specs.Disk.{is_number, is_of_kernel, is_program, is_same, is_wanted, is_whole, map_refusal, rank, refusal_by, regular_refusal, worth_of};
+ghost use Rattle.std.specs.Str.{IsUtf8};
+ghost use Rattle.framehop_disk.specs.Paths.{is_file_name};
+ghost use Rattle.framehop_disk.specs.Disk.{IsLinked, is_number, is_of_kernel, is_program, is_read_and_wanted, is_readable, is_same, is_wanted, is_whole, map_refusal, rank, refusal_by, regular_refusal, worth_by, worth_of};
 
 use crate::input::read_sized;
 use crate::known_names::KnownNames;
@@ -216,14 +218,7 @@ impl Disk<'_, '_> {
                 break;
             }
         }
-        let is_wanted = match &read {
-            Ok(file) => is_wanted(self.rt.alloc(), file.bytes.as_slice(), build_id)?,
-            Err(_) => false,
-        };
-        Ok(Candidate {
-            worth: worth_of(&read, is_wanted),
-            read,
-        })
+        candidate_of(self.rt.alloc(), read, build_id)
     }
 
     /// Reads a file that was mapped, by the path to which links and `..` lead: below the root, if one is named, and else in
@@ -254,12 +249,14 @@ impl Disk<'_, '_> {
     /// Returns whether the file of a path without links may be read.
     fn is_allowed(&self, root: &str, path: &str) -> Result<bool, AllocError> {
         if is_whole(root.as_bytes()) {
-            return Ok(!is_of_kernel(path.as_bytes()));
+            return Ok(is_readable(root.as_bytes(), None, path.as_bytes()));
         }
-        match known(fs::canonicalize(self.rt, root))? {
-            Some(root) => Ok(is_below(path.as_bytes(), root.as_str().as_bytes())),
-            None => Ok(false),
-        }
+        let real = known(fs::canonicalize(self.rt, root))?;
+        let real = match &real {
+            Some(real) => Some(real.as_str().as_bytes()),
+            None => None,
+        };
+        Ok(is_readable(root.as_bytes(), real, path.as_bytes()))
     }
 
     /// Returns where perf keeps the copy of the file of a build id.
@@ -280,11 +277,9 @@ impl Disk<'_, '_> {
     ) -> Result<Option<ReadFile>, AllocError> {
         match self.read_debug_file_of(build_id)? {
             Some(read) => Ok(Some(read)),
-            None => match (std::str::from_utf8(name), std::str::from_utf8(link)) {
-                (Ok(path), Ok(link)) if is_file_name(link.as_bytes()) => {
-                    self.read_linked(folder_of(path), build_id, link)
-                }
-                _ => Ok(None),
+            None => match linked(name, link) {
+                Some((folder, link)) => self.read_linked(folder, build_id, link),
+                None => Ok(None),
             },
         }
     }
@@ -342,11 +337,48 @@ impl Program<'_> {
     }
 }
 
+/// Returns the folder of a file and the name of its debug file, by the file's name and its link to that. `None` where one of them
+/// is no UTF-8, and where the link leads to another folder.
+fn linked<'a>(name: &'a [u8], link: &'a [u8]) -> Option<(&'a str, &'a str)>
+    ensures found { IfSome result (IsLinked name.entry.now link.entry.now) }
+    ensures all { IsUtf8 name.entry.now → IsUtf8 link.entry.now → is_file_name link.entry.now ≡ true → IsSome result }
+{
+    let path = std::str::from_utf8(name).ok()?;
+    let link = std::str::from_utf8(link).ok()?;
+    if is_file_name(link.as_bytes()) {
+        Some((folder_of(path), link))
+    } else {
+        None
+    }
+}
+
 /// Returns whether two texts are the same.
 fn is_same(a: &[u8], b: &[u8]) -> bool
     ensures { result ≡ is_same a.now b.now }
 {
     a == b
+}
+
+/// Returns what was read in a root with what that is worth, by the wanted build id.
+fn candidate_of(alloc: Global, read: Read, build_id: &[u8]) -> Result<Candidate, AllocError>
+    ensures worth { IfOk result (λ candidate. candidate.worth ≡ worth_by build_id.now read) }
+    ensures read { IfOk result (λ candidate. candidate.read ≡ read) }
+{
+    let is_wanted = is_read_and_wanted(alloc, &read, build_id)?;
+    Ok(Candidate {
+        worth: worth_of(&read, is_wanted),
+        read,
+    })
+}
+
+/// Returns whether a file was read that has the wanted build id, if one is wanted.
+fn is_read_and_wanted(alloc: Global, read: &Read, build_id: &[u8]) -> Result<bool, AllocError>
+    ensures { IfOk result (λ is. is ≡ is_read_and_wanted build_id.now read.now) }
+{
+    match read {
+        Ok(file) => is_wanted(alloc, file.bytes.as_slice(), build_id),
+        Err(_) => Ok(false),
+    }
 }
 
 /// Returns the better of what two roots have: of two that are worth the same the first.
@@ -381,6 +413,20 @@ fn worth_of(read: &Read, is_wanted: bool) -> Worth
         Ok(_) => Worth::Other,
         Err(ReadRefusal::NotThere) => Worth::Nothing,
         Err(_) => Worth::Refused,
+    }
+}
+
+/// Returns whether the file of a path without links may be read below a root, by the root's path without links, if that is
+/// known. A root that leads to all files leads to none that the kernel makes up.
+fn is_readable(root: &[u8], real: Option<&[u8]>, path: &[u8]) -> bool
+    ensures { result ≡ is_readable root.now (option_map (λ real. real.now) real.entry) path.now }
+{
+    if is_whole(root) {
+        return !is_of_kernel(path);
+    }
+    match real {
+        Some(real) => is_below(path, real),
+        None => false,
     }
 }
 

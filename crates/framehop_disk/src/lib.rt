@@ -3,6 +3,7 @@
 #![tactic(auto)]
 
 pub mod core_parts;
+pub mod counted;
 pub mod disk;
 mod gaps;
 pub mod input;

@@ -1,7 +1,9 @@
 //! Mapped files without the sections of which neither unwinding nor names ask for a byte: most of a file that was built for
 //! debugging.
-ghost use Rattle.std.specs.Prelude.{◌≡◌, IfOk};
-ghost use Rattle.framehop_disk.specs.ObjectParts.{front_size, headers_place, headers_size, is_object, kept_parts, names_section, with_moved, with_section, written};
+ghost use Rattle.std.specs.Prelude.{◌≡◌, IfOk, IfSome, Ok, Some, true};
+ghost use Rattle.framehop_disk.specs.Gaps.{is_kept};
+ghost use Rattle.framehop_disk.specs.ObjectParts.{code_end_by, front_size, has_build_id, headers_in, headers_place, headers_size, is_object, kept_parts, names_section, with_moved, with_section, written};
+ghost use Rattle.framehop_disk.specs.Unasked.{IsOfParts, are_kept, unasked_parts};
 
 use crate::gaps::{Gap, Gaps};
 use crate::input::{read_at, read_front, read_sized, zeros};
@@ -100,11 +102,18 @@ fn read_with_build_id(
         sections.headers.as_slice(),
         &sections.left_out,
     );
-    if build_id_of(alloc, bytes.as_slice())?.is_empty() {
-        Ok(None)
-    } else {
+    if has_build_id(alloc, bytes.as_slice())? {
         Ok(Some(bytes))
+    } else {
+        Ok(None)
     }
+}
+
+/// Returns whether a file has a build id.
+fn has_build_id(alloc: Global, file: &[u8]) -> Result<bool, AllocError>
+    ensures { IfOk result (λ has. has ≡ has_build_id file.now) }
+{
+    Ok(!build_id_of(alloc, file)?.is_empty())
 }
 
 /// Reads the section headers of a file of a size, and tells which parts of it are left out. `None` where none are, and of a
@@ -145,7 +154,24 @@ fn read_gaps(
         return Ok(None);
     };
     let names = read_at(alloc, file, names.sh_offset, names.sh_size)?;
-    match gaps_in(alloc, headers, names.as_slice(), code_end, size)? {
+    Ok(left_out(alloc, header, headers, names.as_slice(), code_end, size)?)
+}
+
+/// Returns the parts of a file of a size that are left out, by the names of its sections. `None` where there are none, where they
+/// are not apart and after the code, and where one has a byte of another section or of the section headers.
+fn left_out(
+    alloc: Global,
+    header: FileHeader,
+    headers: &[SectionHeader],
+    names: &[u8],
+    code_end: u64,
+    size: u64,
+) -> Result<Option<Gaps>, AllocError>
+    ensures unasked { IfOk result (λ found. IfSome found (λ gaps. IsOfParts code_end (unasked_parts names.now size headers.now) gaps)) }
+    ensures sections { IfOk result (λ found. IfSome found (λ gaps. are_kept names.now gaps headers.now ≡ true)) }
+    ensures headers { IfOk result (λ found. IfSome found (λ gaps. is_kept gaps header.e_shoff (headers_size header) ≡ true)) }
+{
+    match gaps_in(alloc, headers, names, code_end, size)? {
         Some(gaps) if gaps.keep(header.e_shoff, headers_size(header)) => Ok(Some(gaps)),
         _ => Ok(None),
     }
@@ -170,9 +196,17 @@ fn code_end(alloc: Global, file: &mut File, header: FileHeader) -> io::Result<Op
         return Ok(None);
     };
     let front = read_at(alloc, file, 0, end)?;
-    match read_program_headers(alloc, front.as_slice(), header) {
-        Ok(headers) => Ok(Some(end_of_code(headers.as_slice(), end))),
-        Err(_) => Ok(None),
+    Ok(code_end_by(alloc, front.as_slice(), header))
+}
+
+/// Returns the offset at which the first bytes of a file end or, where that is later, its code and its notes. `None` where its
+/// program headers can't be read in these.
+fn code_end_by(alloc: Global, front: &[u8], header: FileHeader) -> Option<u64>
+    ensures { IfSome result (λ end. code_end_by front.now header ≡ Some end) }
+{
+    match read_program_headers(alloc, front, header) {
+        Ok(headers) => Some(end_of_code(headers.as_slice(), front.len() as u64)),
+        Err(_) => None,
     }
 }
 
@@ -198,11 +232,19 @@ fn read_headers(
     };
     let before = place.start.saturating_sub(HEADER_SIZE);
     let table = read_at(alloc, file, before, place.end.saturating_sub(before))?;
+    Ok(headers_in(alloc, table.as_slice(), header))
+}
+
+/// Returns the section headers of a file, which are in a table after as many bytes as its own header has. `None` where they can't
+/// be read.
+fn headers_in(alloc: Global, table: &[u8], header: FileHeader) -> Option<Vec<SectionHeader>>
+    ensures { IfSome result (λ headers. headers_in table.now header ≡ Ok headers.items) }
+{
     let here = FileHeader {
         e_shoff: HEADER_SIZE,
         ..header
     };
-    Ok(read_section_headers(alloc, table.as_slice(), here).ok())
+    read_section_headers(alloc, table, here).ok()
 }
 
 /// Returns where a file of a size has its section headers: after its own header, if it has some.

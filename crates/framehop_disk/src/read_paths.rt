@@ -1,5 +1,5 @@
 //! Where files of a disk were read.
-ghost use Rattle.std.specs.Prelude.{◌≡◌, IfOk, find, reverse};
+ghost use Rattle.std.specs.Prelude.{◌≡◌, IfOk, None, find, option_map, reverse};
 ghost use Rattle.std.specs.Option.{option_copied};
 ghost use Rattle.framehop_processes.specs.Files.{path_of};
 ghost use Rattle.framehop_disk.specs.ReadPaths.{debug_file_of, file_of, is_named, is_read_by, last_of, path_bytes};
@@ -40,16 +40,7 @@ impl ReadPaths {
         build_id: &[u8],
         path: Option<&str>,
     ) -> Result<(), AllocError> {
-        let file = match path {
-            Some(path) => Some(Vec::from_slice(alloc, path.as_bytes())?),
-            None => None,
-        };
-        let one = ReadPath {
-            name: Vec::from_slice(alloc, name)?,
-            build_id: Vec::from_slice(alloc, build_id)?,
-            file,
-            debug_file: None,
-        };
+        let one = read_path(alloc, name, build_id, path)?;
         if let Ok(mut list) = self.list.try_borrow_mut() {
             list.push(one)?;
         }
@@ -96,6 +87,36 @@ impl ReadPaths {
             }
             _ => paths_of(alloc, None),
         }
+    }
+}
+
+/// Returns where the file of a name was read, if it was, by the build id that was wanted. Of its debug file nothing is known.
+fn read_path(
+    alloc: Global,
+    name: &[u8],
+    build_id: &[u8],
+    path: Option<&str>,
+) -> Result<ReadPath, AllocError>
+    ensures name { IfOk result (λ read. read.name.items ≡ name.now) }
+    ensures build_id { IfOk result (λ read. read.build_id.items ≡ build_id.now) }
+    ensures file { IfOk result (λ read. path_bytes read.file ≡ option_map (λ path. path.now) path.entry) }
+    ensures debug_file { IfOk result (λ read. read.debug_file ≡ None) }
+{
+    Ok(ReadPath {
+        file: bytes_of(alloc, path)?,
+        name: Vec::from_slice(alloc, name)?,
+        build_id: Vec::from_slice(alloc, build_id)?,
+        debug_file: None,
+    })
+}
+
+/// Returns the bytes of a path, if there is one.
+fn bytes_of(alloc: Global, path: Option<&str>) -> Result<Option<Vec<u8>>, AllocError>
+    ensures { IfOk result (λ bytes. path_bytes bytes ≡ option_map (λ path. path.now) path.entry) }
+{
+    match path {
+        Some(path) => Ok(Some(Vec::from_slice(alloc, path.as_bytes())?)),
+        None => Ok(None),
     }
 }
 

@@ -5,11 +5,10 @@ ghost use Rattle.framehop_stacks_cli.specs.Stacks.{Merges};
 
 use crate::request::{refuse_file, refuse_file_by};
 use framehop_cli::Result;
-use framehop_disk::printed::printed_text;
-use framehop_folded::error::{FoldedError, TextError};
+use framehop_disk::counted::count_lines;
+use framehop_folded::error::TextError;
 use framehop_folded::folded::Folded;
 use framehop_folded::text::{FoldedLine, line_number, read_folded};
-use std::alloc::Global;
 
 /// Adds the folded stacks of a text to those so far, if all of its lines can be read.
 pub fn add_folded(rt: &HostRuntime, path: &str, text: &[u8], folded: &mut Folded) -> Result<u8> {
@@ -34,21 +33,6 @@ fn add_lines(
         Ok(()) => merge(rt, path, added, folded),
         Err(error) => refuse_file_by(rt, path, error),
     }
-}
-
-/// Counts the stacks of lines, as they are printed.
-fn count_lines(
-    alloc: Global,
-    lines: &[FoldedLine],
-    counted: &mut Folded,
-) -> Result<Result<(), FoldedError>> {
-    for line in lines {
-        let stack = printed_text(alloc, line.stack.as_slice())?;
-        if let Err(error) = counted.add(stack, line.count) {
-            return Ok(Err(error));
-        }
-    }
-    Ok(Ok(()))
 }
 
 /// Adds folded stacks to those so far, or says why they can't be added.

@@ -1,0 +1,7 @@
+use Rattle.framehop_disk.proofs.CountedLemmas.{line-counted}
+use Rattle.framehop_disk.proofs.counted.count_line.Goals as goal
+
+pub returns : goal.returns
+returns c =
+    line-counted c.args.counted.now c.add.new.self c.args.line.now c.in_ok-stack.stack c.in_ok-stack.ensures c.add.result c.add.ensures.counted
+    c.add.ensures.others
