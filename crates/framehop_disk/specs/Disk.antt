@@ -91,7 +91,7 @@ worth_of (Err _) wanted = worth.Refused
 -- by the build id that is wanted
 abbrev pub is_read_and_wanted : List ℕ → Result ReadFile ReadRefusal → Bool
 is_read_and_wanted build_id (Ok file) = is_wanted build_id file.bytes.items
-is_read_and_wanted build_id (Err refusal) = false
+is_read_and_wanted build_id (Err _) = false
 
 abbrev pub worth_by : List ℕ → Result ReadFile ReadRefusal → Worth
 worth_by build_id read = worth_of read (is_read_and_wanted build_id read)
