@@ -12,12 +12,12 @@ use Rattle.framehop_disk.specs.Printed.{printed_text}
 
 together-some : (before : Option ℕ) (count : ℕ) → Some (unwrap_or before 0 + count) ≡ together before (Some count)
 together-some (Some before) count = refl
-together-some None count = refl
+together-some None count = let sum : 0 + count ≡ count = omega arith in ap Some sum
 
 module _ (old new : Folded) (line : FoldedLine) (printed : List ℕ) (is : printed ≡ printed_text line.stack.items)
     (counted : entry_of new printed ≡ Some (count_in old printed + line.count))
     (others : (other : List ℕ) → other ≢ printed → entry_of new other ≡ entry_of old other) where
-  chosen : List ℕ → Bool → Option ℕ
+  abbrev chosen : List ℕ → Bool → Option ℕ
   chosen stack b = cond b (together (entry_of old stack) (Some line.count)) (entry_of old stack)
 
   own : entry_of new printed ≡ together (entry_of old printed) (Some line.count)
