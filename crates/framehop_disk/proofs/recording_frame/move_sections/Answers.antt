@@ -9,7 +9,7 @@ pub loop-section-preserved : goal.loop-section-preserved
 loop-section-preserved c =
     let count = count_ones c.args.header.now.features in
     let rest : sections_moved c.args.header.now.records (sum_64 c.loop-section.at 16) (count - (c.loop-section._section + 1)) c.move_section.new.frame
-        ≡ frame_of c.args.header.now c.args.frame.now =
+    ≡ frame_of c.args.header.now c.args.frame.now =
     sym (moved-some c.args.header.now.records c.loop-section.at c.loop-section._section count c.loop-section.frame c.move_section.new.frame
     (omega arith) (search rules)) ∙ c.loop-section.invariant in
     search (rules, rest)
