@@ -7,7 +7,7 @@ use std::alloc::{AllocError, Global};
 
 /// Returns a text as it is printed: each part between semicolons and line feeds as a name is, so that a terminal takes no
 /// byte of it for a command, and a long part is cut.
-pub fn printed_text(alloc: Global, text: &[u8]) -> Result<Vec<u8>, AllocError>
+pub(crate) fn printed_text(alloc: Global, text: &[u8]) -> Result<Vec<u8>, AllocError>
     ensures { IfOk result (λ printed. printed.items ≡ printed_text text.now) }
 {
     let mut printed = Vec::with_capacity(alloc, text.len())?;
