@@ -62,9 +62,10 @@ def build(folder):
     effect = source_of("framehop_code", "effect")
     begin, end = effect.index("/// The instructions of an architecture."), effect.index("/// Returns the effect of an instruction of")
     write(folder, "framehop_code/effect.rs", effect[:begin] + effect[end:])
+    write(folder, "framehop_code/action.rs", source_of("framehop_code", "action"))
     for name in FILES:
         write(folder, f"framehop_code/x86_64/{name}.rs", source_of("framehop_code", "x86_64/" + name))
-    write(folder, "framehop_code.rs", "pub mod effect; pub mod x86_64 {" + "".join(f"pub mod {name};" for name in FILES) + "}")
+    write(folder, "framehop_code.rs", "pub mod action; pub mod effect; pub mod x86_64 {" + "".join(f"pub mod {name};" for name in FILES) + "}")
     with open(os.path.join(HERE, "step_actions.rs"), encoding="utf-8") as file:
         write(folder, "main.rs", file.read())
     subprocess.run(["rustc", "--edition", "2021", "-O", "-A", "warnings", "main.rs", "-o", "compare"], cwd=folder, check=True)

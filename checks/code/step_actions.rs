@@ -1,6 +1,7 @@
 //! Compares what step_actions.c writes of each step with the action of the instruction. It prints each instruction that does
 //! something else, and how many of each kind do what is told; it exits with 1 if one does not.
-use framehop_code::x86_64::action::{action_at, Action, Address, Computation, Operand, Place, Source, Stored, Width};
+use framehop_code::action::{Action, Address, Computation, Operand, Place, Source, Stored, Width};
+use framehop_code::x86_64::action::action_at;
 use std::collections::BTreeMap;
 use std::io::{stdin, BufRead};
 

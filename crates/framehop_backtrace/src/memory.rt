@@ -5,7 +5,7 @@ ghost use Rattle.framehop_core.specs.CodeAddress.{location_of};
 ghost use Rattle.framehop_backtrace.specs.Code.{Code, is_in_trampoline, is_in_code, is_outside_code, is_unread};
 
 use framehop_callers::memory::WordMemory;
-use framehop_code::x86_64::action::Instruction;
+use framehop_code::action::Instruction;
 use framehop_core::FrameAddress;
 
 /// A memory of which it is known what is code.

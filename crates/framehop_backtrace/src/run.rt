@@ -11,7 +11,7 @@ use crate::memory::CodeMemory;
 use framehop_callers::memory::WordMemory;
 use framehop_callers::run::RunCaller;
 use framehop_callers::step::RunMemory;
-use framehop_code::x86_64::action::Instruction;
+use framehop_code::action::Instruction;
 use framehop_core::FrameAddress;
 
 /// How many bytes an instruction of x86_64 has at most.

@@ -9,21 +9,21 @@ use Rattle.framehop_core.specs.Memory.{Memory}
 use Rattle.framehop_callers.specs.RegisterFile.{in_column, word_of, with_word}
 use Rattle.framehop_callers.proofs.Columns.{is-set, set-elsewhere, keeps-length}
 use Rattle.framehop_code.specs.X86_64.Action.{action_at}
-use Rattle.framehop_code.specs.declared.x86_64.action.Action.{Action}
-use Rattle.framehop_code.specs.declared.x86_64.action.Action.TheVariants as action
-use Rattle.framehop_code.specs.declared.x86_64.action.Instruction.{Instruction}
-use Rattle.framehop_code.specs.declared.x86_64.action.Computation.{Computation}
-use Rattle.framehop_code.specs.declared.x86_64.action.Address.{Address}
-use Rattle.framehop_code.specs.declared.x86_64.action.Index.{Index}
-use Rattle.framehop_code.specs.declared.x86_64.action.Place.{Place}
-use Rattle.framehop_code.specs.declared.x86_64.action.Place.TheVariants.{At, Elsewhere}
-use Rattle.framehop_code.specs.declared.x86_64.action.Operand.{Operand}
-use Rattle.framehop_code.specs.declared.x86_64.action.Operand.TheVariants as operand
-use Rattle.framehop_code.specs.declared.x86_64.action.Source.{Source as From}
-use Rattle.framehop_code.specs.declared.x86_64.action.Source.TheVariants as source
-use Rattle.framehop_code.specs.declared.x86_64.action.Stored.{Stored}
-use Rattle.framehop_code.specs.declared.x86_64.action.Width.{Width}
-use Rattle.framehop_code.specs.declared.x86_64.action.Width.TheVariants.{Four, Eight}
+use Rattle.framehop_code.specs.declared.action.Action.{Action}
+use Rattle.framehop_code.specs.declared.action.Action.TheVariants as action
+use Rattle.framehop_code.specs.declared.action.Instruction.{Instruction}
+use Rattle.framehop_code.specs.declared.action.Computation.{Computation}
+use Rattle.framehop_code.specs.declared.action.Address.{Address}
+use Rattle.framehop_code.specs.declared.action.Index.{Index}
+use Rattle.framehop_code.specs.declared.action.Place.{Place}
+use Rattle.framehop_code.specs.declared.action.Place.TheVariants.{At, Elsewhere}
+use Rattle.framehop_code.specs.declared.action.Operand.{Operand}
+use Rattle.framehop_code.specs.declared.action.Operand.TheVariants as operand
+use Rattle.framehop_code.specs.declared.action.Source.{Source as From}
+use Rattle.framehop_code.specs.declared.action.Source.TheVariants as source
+use Rattle.framehop_code.specs.declared.action.Stored.{Stored}
+use Rattle.framehop_code.specs.declared.action.Width.{Width}
+use Rattle.framehop_code.specs.declared.action.Width.TheVariants.{Four, Eight}
 use Rattle.framehop_callers.specs.declared.known.Write.{Write}
 use Rattle.framehop_callers.specs.declared.state.State.{State}
 use Rattle.framehop_callers.specs.Known.{is_at, stored}

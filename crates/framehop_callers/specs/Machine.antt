@@ -3,16 +3,16 @@
 -- aren't described, so a conditional jump may lead either way.
 use Rattle.std.specs.Prelude.{◌≡◌, ◌≢◌, ℕ, false, Option, Some, None}
 use Rattle.framehop_cfi.specs.declared.rule.Register.{Register}
-use Rattle.framehop_code.specs.declared.x86_64.action.Address.{Address}
-use Rattle.framehop_code.specs.declared.x86_64.action.Index.{Index}
-use Rattle.framehop_code.specs.declared.x86_64.action.Place.{Place}
-use Rattle.framehop_code.specs.declared.x86_64.action.Place.TheVariants.{At, Elsewhere}
-use Rattle.framehop_code.specs.declared.x86_64.action.Operand.{Operand}
-use Rattle.framehop_code.specs.declared.x86_64.action.Operand.TheVariants as operand
-use Rattle.framehop_code.specs.declared.x86_64.action.Source.{Source}
-use Rattle.framehop_code.specs.declared.x86_64.action.Source.TheVariants as source
-use Rattle.framehop_code.specs.declared.x86_64.action.Width.{Width}
-use Rattle.framehop_code.specs.declared.x86_64.action.Width.TheVariants.{Four}
+use Rattle.framehop_code.specs.declared.action.Address.{Address}
+use Rattle.framehop_code.specs.declared.action.Index.{Index}
+use Rattle.framehop_code.specs.declared.action.Place.{Place}
+use Rattle.framehop_code.specs.declared.action.Place.TheVariants.{At, Elsewhere}
+use Rattle.framehop_code.specs.declared.action.Operand.{Operand}
+use Rattle.framehop_code.specs.declared.action.Operand.TheVariants as operand
+use Rattle.framehop_code.specs.declared.action.Source.{Source}
+use Rattle.framehop_code.specs.declared.action.Source.TheVariants as source
+use Rattle.framehop_code.specs.declared.action.Width.{Width}
+use Rattle.framehop_code.specs.declared.action.Width.TheVariants.{Four}
 use Rattle.framehop_callers.specs.Known.{meet}
 use Rattle.framehop_callers.specs.State.{sum, product, start_of, bytes_of, low, sign_extended}
 

@@ -4,18 +4,18 @@ use Rattle.std.specs.Prelude.{ℕ, zero, suc, ◌+◌, ◌-◌, ◌*◌, ◌/◌
 use Rattle.framehop_cfi.specs.declared.rule.Register.{Register}
 use Rattle.framehop_core.specs.Memory.{Memory}
 use Rattle.framehop_callers.specs.RegisterFile.{word_of, with_word}
-use Rattle.framehop_code.specs.declared.x86_64.action.Address.{Address}
-use Rattle.framehop_code.specs.declared.x86_64.action.Index.{Index}
-use Rattle.framehop_code.specs.declared.x86_64.action.Place.{Place}
-use Rattle.framehop_code.specs.declared.x86_64.action.Place.TheVariants.{At, Elsewhere}
-use Rattle.framehop_code.specs.declared.x86_64.action.Operand.{Operand}
-use Rattle.framehop_code.specs.declared.x86_64.action.Operand.TheVariants as operand
-use Rattle.framehop_code.specs.declared.x86_64.action.Source.{Source}
-use Rattle.framehop_code.specs.declared.x86_64.action.Source.TheVariants as source
-use Rattle.framehop_code.specs.declared.x86_64.action.Width.{Width}
-use Rattle.framehop_code.specs.declared.x86_64.action.Width.TheVariants.{Four, Eight}
-use Rattle.framehop_code.specs.declared.x86_64.action.Computation.{Computation}
-use Rattle.framehop_code.specs.declared.x86_64.action.Computation.TheVariants.{Add, Subtract, And, Or, ExclusiveOr}
+use Rattle.framehop_code.specs.declared.action.Address.{Address}
+use Rattle.framehop_code.specs.declared.action.Index.{Index}
+use Rattle.framehop_code.specs.declared.action.Place.{Place}
+use Rattle.framehop_code.specs.declared.action.Place.TheVariants.{At, Elsewhere}
+use Rattle.framehop_code.specs.declared.action.Operand.{Operand}
+use Rattle.framehop_code.specs.declared.action.Operand.TheVariants as operand
+use Rattle.framehop_code.specs.declared.action.Source.{Source}
+use Rattle.framehop_code.specs.declared.action.Source.TheVariants as source
+use Rattle.framehop_code.specs.declared.action.Width.{Width}
+use Rattle.framehop_code.specs.declared.action.Width.TheVariants.{Four, Eight}
+use Rattle.framehop_code.specs.declared.action.Computation.{Computation}
+use Rattle.framehop_code.specs.declared.action.Computation.TheVariants.{Add, Subtract, And, Or, ExclusiveOr}
 use Rattle.framehop_callers.specs.declared.known.Write.{Write}
 use Rattle.framehop_callers.specs.declared.state.State.{State}
 use Rattle.framehop_callers.specs.Known.{loaded, stored}

@@ -4,11 +4,11 @@ use Rattle.std.specs.List.{filter}
 use Rattle.framehop_core.specs.Memory.{Memory}
 use Rattle.framehop_callers.specs.RegisterFile.{word_of}
 use Rattle.framehop_code.specs.X86_64.Action.{action_at}
-use Rattle.framehop_code.specs.declared.x86_64.action.Instruction.{Instruction}
-use Rattle.framehop_code.specs.declared.x86_64.action.Action.{Action}
-use Rattle.framehop_code.specs.declared.x86_64.action.Action.TheVariants as action
-use Rattle.framehop_code.specs.declared.x86_64.action.Stored.{Stored}
-use Rattle.framehop_code.specs.declared.x86_64.action.Width.TheVariants.{Eight}
+use Rattle.framehop_code.specs.declared.action.Instruction.{Instruction}
+use Rattle.framehop_code.specs.declared.action.Action.{Action}
+use Rattle.framehop_code.specs.declared.action.Action.TheVariants as action
+use Rattle.framehop_code.specs.declared.action.Stored.{Stored}
+use Rattle.framehop_code.specs.declared.action.Width.TheVariants.{Eight}
 use Rattle.framehop_callers.specs.declared.state.State.{State}
 use Rattle.framehop_callers.specs.declared.step.Step.{Step}
 use Rattle.framehop_callers.specs.declared.step.Step.TheVariants.{Goes, Returns, GivenUp}

@@ -9,7 +9,7 @@ use crate::memory::WordMemory;
 use crate::register_file::RegisterFile;
 use framehop_cfi::rule::Register;
 use framehop_cfi::x86_64::{RBP, RSP};
-use framehop_code::x86_64::action::{
+use framehop_code::action::{
     Address, Computation, Index, Operand, Place, Registers, Source, Width,
 };
 

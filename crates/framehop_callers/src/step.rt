@@ -8,7 +8,7 @@ use crate::memory::WordMemory;
 use crate::state::{State, computed_of};
 use framehop_cfi::rule::Register;
 use framehop_cfi::x86_64::RSP;
-use framehop_code::x86_64::action::{Action, Instruction, Registers, Stored, Width};
+use framehop_code::action::{Action, Instruction, Registers, Stored, Width};
 
 /// The register that LOOP counts down.
 const RCX: Register = Register(2);

@@ -4,11 +4,11 @@ use Rattle.std.specs.Prelude.{slice_get}
 use Rattle.std.proofs.lemmas.Bool.{le-leb}
 use Rattle.std.proofs.lemmas.Option.{slice_get_within}
 use Rattle.framehop_analysis.specs.X86_64.Machine as machine
-use Rattle.framehop_code.specs.declared.x86_64.action.Action.{Action}
-use Rattle.framehop_code.specs.declared.x86_64.action.Action.TheVariants as action
-use Rattle.framehop_code.specs.declared.x86_64.action.Instruction.{Instruction}
-use Rattle.framehop_code.specs.declared.x86_64.action.Source.TheVariants as source
-use Rattle.framehop_code.specs.declared.x86_64.action.Width.TheVariants.{Eight}
+use Rattle.framehop_code.specs.declared.action.Action.{Action}
+use Rattle.framehop_code.specs.declared.action.Action.TheVariants as action
+use Rattle.framehop_code.specs.declared.action.Instruction.{Instruction}
+use Rattle.framehop_code.specs.declared.action.Source.TheVariants as source
+use Rattle.framehop_code.specs.declared.action.Width.TheVariants.{Eight}
 use Rattle.framehop_code.specs.declared.x86_64.opcode.Operand.TheVariants.{OpcodeRegister}
 use Rattle.framehop_code.specs.declared.x86_64.opcode.Operation.TheVariants.{Push, Pop, Return, Leave}
 use Rattle.framehop_code.specs.X86_64.Instruction.{signed_at, parts_at}
@@ -18,7 +18,7 @@ use Rattle.framehop_code.specs.X86_64.Action.{described, instruction_in, action_
 use Rattle.framehop_code.specs.X86_64.MachineActions.{register_of, after_next, Computes, Loads, IsAction, IsActionAsMachine}
 use Rattle.framehop_code.specs.X86_64.Machine.{AreAt, signed_of}
 use Rattle.std.specs.Int.{cast_signed, w8}
-use Rattle.framehop_code.specs.declared.x86_64.action.Computation.TheVariants.{Add, Subtract}
+use Rattle.framehop_code.specs.declared.action.Computation.TheVariants.{Add, Subtract}
 use Rattle.framehop_code.proofs.MachineX86_64.{bare-parts, rex-bare-parts, move-has-parts, move-parts, register-address, plain_parts, cases-8, from, taken, sum-byte-parts, sum-long-parts, lea-parts, load-parts, four-bytes, u8-fifth, jump-byte-parts, jump-long-parts, call-long-parts}
 
 -- ---- bytes

@@ -2,7 +2,7 @@
 //!
 //! An instruction is described by its size, by what it makes of the stack pointer and of the frame pointer, and by where it
 //! leads: an `Effect`. That is enough to follow how far the canonical frame address (CFA) is above either
-//! register, from instruction to instruction. Of x86_64 an instruction's `Action` describes all general registers and the
+//! register, from instruction to instruction. An instruction's `Action` describes all general registers and the
 //! memory that it writes, so that code can be followed over values that are known.
 //!
 //! # Decisions
@@ -16,5 +16,6 @@
 #![tactic(auto)]
 
 pub mod aarch64;
+pub mod action;
 pub mod effect;
 pub mod x86_64;

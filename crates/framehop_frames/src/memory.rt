@@ -8,7 +8,7 @@ use framehop_backtrace::CodeMemory;
 use framehop_backtrace::signal::is_trampoline;
 use framehop_bytes::bytes::back;
 use framehop_callers::memory::WordMemory;
-use framehop_code::x86_64::action::Instruction;
+use framehop_code::action::Instruction;
 use framehop_processes::code::{code_at, is_at_entry, is_mapped};
 use framehop_processes::files::Files;
 use framehop_processes::place::{Place, place_of};

@@ -1,10 +1,10 @@
 //! Actions of instructions, as the processor does them.
 use framehop_cfi::rule::Register;
 use framehop_cfi::x86_64::{R12, R15, RBP, RBX, RSP};
-use framehop_code::x86_64::action::{
+use framehop_code::action::{
     Action, Address, Computation, Index, Operand, Place, Registers, Source, Stored, Width,
-    action_at,
 };
+use framehop_code::x86_64::action::action_at;
 
 const RAX: Register = Register(0);
 

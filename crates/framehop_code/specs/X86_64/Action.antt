@@ -7,18 +7,17 @@ use Rattle.framehop_bytes.specs.ByCode.{by_code, by_test}
 use Rattle.framehop_cfi.specs.declared.rule.Register.{Register}
 use Rattle.framehop_cfi.specs.X86_64 as column
 use Rattle.framehop_cfi.specs.declared.read_error.ReadError.{ReadError}
-use Rattle.framehop_code.specs.declared.x86_64.action.Action.{Action}
-use Rattle.framehop_code.specs.declared.x86_64.action.Action.TheVariants.{Branch, Call, Compute, Forget, Jump, Leave, Loop, Move, Pop, Push, Return}
-use Rattle.framehop_code.specs.declared.x86_64.action.Computation.{Computation}
-use Rattle.framehop_code.specs.declared.x86_64.action.Computation.TheVariants.{Add, And, ExclusiveOr, Or, Subtract}
-use Rattle.framehop_code.specs.declared.x86_64.action.Instruction.{Instruction}
-use Rattle.framehop_code.specs.declared.x86_64.action.Operand.{Operand}
-use Rattle.framehop_code.specs.declared.x86_64.action.Operand.TheVariants as operand
-use Rattle.framehop_code.specs.declared.x86_64.action.Registers.{Registers}
-use Rattle.framehop_code.specs.declared.x86_64.action.Source.{Source}
-use Rattle.framehop_code.specs.declared.x86_64.action.Source.TheVariants as source
-use Rattle.framehop_code.specs.declared.x86_64.action.Width.{Width}
-use Rattle.framehop_code.specs.declared.x86_64.action.Width.TheVariants.{Eight}
+use Rattle.framehop_code.specs.declared.action.Action.{Action}
+use Rattle.framehop_code.specs.declared.action.Action.TheVariants.{Branch, Call, Compute, Forget, Jump, Leave, Loop, Move, Pop, Push, Return}
+use Rattle.framehop_code.specs.declared.action.Computation.{Computation}
+use Rattle.framehop_code.specs.declared.action.Computation.TheVariants.{Add, And, ExclusiveOr, Or, Subtract}
+use Rattle.framehop_code.specs.declared.action.Instruction.{Instruction}
+use Rattle.framehop_code.specs.declared.action.Operand.{Operand}
+use Rattle.framehop_code.specs.declared.action.Operand.TheVariants as operand
+use Rattle.framehop_code.specs.declared.action.Source.{Source}
+use Rattle.framehop_code.specs.declared.action.Source.TheVariants as source
+use Rattle.framehop_code.specs.declared.action.Width.{Width}
+use Rattle.framehop_code.specs.declared.action.Width.TheVariants.{Eight}
 use Rattle.framehop_code.specs.declared.x86_64.opcode.Operand.{Operand as Named}
 use Rattle.framehop_code.specs.declared.x86_64.opcode.Operand.TheVariants as named
 use Rattle.framehop_code.specs.declared.x86_64.opcode.Operation.{Operation}
@@ -31,10 +30,6 @@ use Rattle.framehop_code.specs.declared.x86_64.instruction.Parts.{Parts}
 use Rattle.framehop_code.specs.X86_64.Instruction.{parts_at}
 use Rattle.framehop_code.specs.X86_64.Operand.{address_of, extended, is_register, is_word, opcode_register, operand_size, reg_of, reg_register, rm_operand, rm_register, target_of, width_of}
 use Rattle.framehop_code.specs.X86_64.Written.{amount_of, elsewhere, forgotten, registers_of, set_of}
-
--- a register is in a set: the bit of its DWARF number is set
-abbrev pub has_register : Registers → Register → Bool
-has_register registers register = nat_lt register.0 16 && (registers.0 / 2 ^ register.0 % 2 == 1)
 
 abbrev RAX : Register
 RAX = record { 0 = 0 }

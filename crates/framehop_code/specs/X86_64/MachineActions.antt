@@ -3,16 +3,16 @@
 use Rattle.std.specs.Prelude.{◌≡◌, ℕ, ◌+◌, true, false, List, [], ◌∷◌, slice_get, slice_index, nat_lt, if◌then◌else◌, Option, Some, None, ℤ}
 use Rattle.std.specs.Int.{cast_signed, cast_unsigned, w8, w64}
 use Rattle.framehop_analysis.specs.X86_64.Machine as machine
-use Rattle.framehop_code.specs.declared.x86_64.action.Action.{Action}
-use Rattle.framehop_code.specs.declared.x86_64.action.Action.TheVariants.{Call, Compute, Jump, Leave, Move, Pop, Push, Return}
-use Rattle.framehop_code.specs.declared.x86_64.action.Address.{Address}
-use Rattle.framehop_code.specs.declared.x86_64.action.Computation.{Computation}
-use Rattle.framehop_code.specs.declared.x86_64.action.Computation.TheVariants.{Add, Subtract}
-use Rattle.framehop_code.specs.declared.x86_64.action.Instruction.{Instruction}
-use Rattle.framehop_code.specs.declared.x86_64.action.Operand.{Operand}
-use Rattle.framehop_code.specs.declared.x86_64.action.Operand.TheVariants as operand
-use Rattle.framehop_code.specs.declared.x86_64.action.Source.TheVariants as source
-use Rattle.framehop_code.specs.declared.x86_64.action.Width.TheVariants.{Eight}
+use Rattle.framehop_code.specs.declared.action.Action.{Action}
+use Rattle.framehop_code.specs.declared.action.Action.TheVariants.{Call, Compute, Jump, Leave, Move, Pop, Push, Return}
+use Rattle.framehop_code.specs.declared.action.Address.{Address}
+use Rattle.framehop_code.specs.declared.action.Computation.{Computation}
+use Rattle.framehop_code.specs.declared.action.Computation.TheVariants.{Add, Subtract}
+use Rattle.framehop_code.specs.declared.action.Instruction.{Instruction}
+use Rattle.framehop_code.specs.declared.action.Operand.{Operand}
+use Rattle.framehop_code.specs.declared.action.Operand.TheVariants as operand
+use Rattle.framehop_code.specs.declared.action.Source.TheVariants as source
+use Rattle.framehop_code.specs.declared.action.Width.TheVariants.{Eight}
 use Rattle.framehop_code.specs.X86_64.Machine.{AreAt, signed_of}
 
 -- the DWARF number of a register of the machine: rax, rcx, rdx, rbx, rsp, rbp, rsi and rdi, then r8 to r15 as they are

@@ -5,14 +5,14 @@ use Rattle.std.specs.Prelude.{ℕ, ◌+◌, ◌*◌, ◌/◌, ◌%◌, ◌^◌, 
 use Rattle.std.specs.Int.{cast_unsigned, w64}
 use Rattle.framehop_bytes.specs.ByCode.{by_code}
 use Rattle.framehop_cfi.specs.declared.rule.Register.{Register}
-use Rattle.framehop_code.specs.declared.x86_64.action.Address.{Address}
-use Rattle.framehop_code.specs.declared.x86_64.action.Index.{Index}
-use Rattle.framehop_code.specs.declared.x86_64.action.Operand.{Operand}
-use Rattle.framehop_code.specs.declared.x86_64.action.Operand.TheVariants as operand
-use Rattle.framehop_code.specs.declared.x86_64.action.Place.{Place}
-use Rattle.framehop_code.specs.declared.x86_64.action.Place.TheVariants.{At, Elsewhere}
-use Rattle.framehop_code.specs.declared.x86_64.action.Width.{Width}
-use Rattle.framehop_code.specs.declared.x86_64.action.Width.TheVariants.{Four, Eight}
+use Rattle.framehop_code.specs.declared.action.Address.{Address}
+use Rattle.framehop_code.specs.declared.action.Index.{Index}
+use Rattle.framehop_code.specs.declared.action.Operand.{Operand}
+use Rattle.framehop_code.specs.declared.action.Operand.TheVariants as operand
+use Rattle.framehop_code.specs.declared.action.Place.{Place}
+use Rattle.framehop_code.specs.declared.action.Place.TheVariants.{At, Elsewhere}
+use Rattle.framehop_code.specs.declared.action.Width.{Width}
+use Rattle.framehop_code.specs.declared.action.Width.TheVariants.{Four, Eight}
 use Rattle.framehop_code.specs.declared.x86_64.instruction.Map.{Map}
 use Rattle.framehop_code.specs.declared.x86_64.instruction.Map.TheVariants as map
 use Rattle.framehop_code.specs.declared.x86_64.instruction.Opcode.{Opcode}

@@ -3,10 +3,10 @@
 use Rattle.std.specs.Prelude.{ℕ, ◌-◌, ◌*◌, ◌/◌, ◌%◌, ◌^◌, Bool, true, false, not, ◌==◌, ◌&&◌, ◌||◌, nat_le, nat_lt, if◌then◌else◌, bit_or, find, List, [], ◌∷◌, Option, Some, None}
 use Rattle.framehop_bytes.specs.ByCode.{by_code}
 use Rattle.framehop_cfi.specs.declared.rule.Register.{Register}
-use Rattle.framehop_code.specs.declared.x86_64.action.Action.{Action}
-use Rattle.framehop_code.specs.declared.x86_64.action.Action.TheVariants as action
-use Rattle.framehop_code.specs.declared.x86_64.action.Stored.{Stored}
-use Rattle.framehop_code.specs.declared.x86_64.action.Place.TheVariants as place
+use Rattle.framehop_code.specs.declared.action.Action.{Action}
+use Rattle.framehop_code.specs.declared.action.Action.TheVariants as action
+use Rattle.framehop_code.specs.declared.action.Stored.{Stored}
+use Rattle.framehop_code.specs.declared.action.Place.TheVariants as place
 use Rattle.framehop_code.specs.declared.x86_64.written.Amount.{Amount}
 use Rattle.framehop_code.specs.declared.x86_64.written.Amount.TheVariants.{Around, Bytes, DoubleLong, Elements, Elsewhere, General, GeneralUnlessRepeated, HalfVector, Long, LongUnlessRepeated, Mask, Narrowed, Nothing, Undescribed, Vector, VectorOrEight, VectorOrScalar}
 use Rattle.framehop_code.specs.declared.x86_64.written.Writes.{Writes}

@@ -2,7 +2,8 @@
 ghost use Rattle.std.specs.Prelude.{◌≡◌, Some, IfSome};
 ghost use Rattle.framehop_code.specs.X86_64.Action.{action_at};
 
-use super::action::{Instruction, action_at};
+use super::action::action_at;
+use crate::action::Instruction;
 use framehop_bytes::bytes::u64_at;
 use std::alloc::{AllocError, Global};
 use std::cell::RefCell;
@@ -30,7 +31,7 @@ struct KeptInstruction {
 impl Model for KeptInstruction {
     ghost use Rattle.std.specs.Prelude.{ℕ, List, Some, ◌≡◌};
     ghost use Rattle.framehop_code.specs.X86_64.Action.{action_at};
-    ghost use Rattle.framehop_code.specs.declared.x86_64.action.Instruction.{Instruction};
+    ghost use Rattle.framehop_code.specs.declared.action.Instruction.{Instruction};
 
     ghost Value = { List ℕ × Instruction };
 

@@ -4,8 +4,8 @@
 ghost use Rattle.std.specs.Prelude.{◌≡◌};
 ghost use Rattle.framehop_code.specs.X86_64.Operand.{column_of, numbered, is_register, reg_of, reg_register, rm_register, opcode_register, is_word, operand_size, width_of, extended, base_of, scale_of, index_of, address_of, scaled_by, place_of, rm_operand, target_of};
 
-use super::action::{Address, Index, Operand, Place, Width};
 use super::instruction::{Map, Opcode, Parts, Prefixes};
+use crate::action::{Address, Index, Operand, Place, Width};
 use framehop_cfi::rule::Register;
 
 /// Returns the DWARF number of the general register that has a number from 0 to 15 in instructions.

@@ -3,10 +3,10 @@
 ghost use Rattle.std.specs.Prelude.{◌≡◌, ◌<◌};
 ghost use Rattle.framehop_code.specs.X86_64.Written.{has_member, row_of, one_byte_writes, two_byte_writes, vector_row, writes_of, amount_by_operation, names_rm, amount_of, vector_size, amount_long, scalar_or, narrowed, mask_size, bytes_of, unit_of, stored, set_of, set_numbered, rm_set, vvvv_set, registers_of, registers_if, registers_by_group, operand_registers, implied_registers, forgotten};
 
-use super::action::{Action, Place, Registers, Stored};
 use super::instruction::{Map, Opcode, Parts};
 use super::opcode::{Operand, Operation};
 use super::operand::{is_register, numbered, operand_size, place_of, reg_of};
+use crate::action::{Action, Place, Registers, Stored};
 use Amount::{
     Around, Bytes, DoubleLong, Elements, Elsewhere, General, GeneralUnlessRepeated, HalfVector,
     Long, LongUnlessRepeated, Mask, Narrowed, Nothing, Undescribed, Vector, VectorOrEight,
@@ -332,7 +332,7 @@ pub(crate) fn forgotten(parts: Parts) -> Action
     ensures { result ≡ forgotten parts }
 {
     Action::Forget {
-        registers: Registers(operand_registers(parts) | implied_registers(parts)),
+        registers: Registers(u32::from(operand_registers(parts) | implied_registers(parts))),
         memory: stored(parts, amount_of(parts)),
     }
 }

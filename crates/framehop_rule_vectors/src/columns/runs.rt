@@ -8,7 +8,8 @@ use framehop_callers::run::{RunCaller, caller_by_runs};
 use framehop_callers::step::RunMemory;
 use framehop_cfi::rule::Register;
 use framehop_cfi::x86_64::{R15, RA, RBP, RBX, RSP};
-use framehop_code::x86_64::action::{Instruction, action_at};
+use framehop_code::action::Instruction;
+use framehop_code::x86_64::action::action_at;
 use std::alloc::{AllocError, Global};
 use std::test::Fail;
 

@@ -4,7 +4,8 @@ ghost use Rattle.std.specs.Prelude.{◌≡◌};
 use framehop_backtrace::memory::CodeMemory;
 use framehop_backtrace::signal::is_trampoline;
 use framehop_callers::memory::WordMemory;
-use framehop_code::x86_64::action::{Instruction, action_at};
+use framehop_code::action::Instruction;
+use framehop_code::x86_64::action::action_at;
 use framehop_memory::memory::{MemoryRange, ProcessMemory};
 use std::alloc::{AllocError, Global};
 
