@@ -1,17 +1,20 @@
 -- The caller that runs come to is that of the processor.
-use Rattle.std.proofs.Common.{◌≡◌, ◌≢◌, ℕ, zero, suc, ◌<◌, Bool, true, false, ◌&&◌, List, Option, Some, None, length, refl, ap, sym, ◌∙◌, subst, arith, inl, inr, ◌==◌, ◌⊎◌}
+use Rattle.std.proofs.Common.{◌≡◌, ◌≢◌, ℕ, zero, suc, ◌<◌, ◌≤◌, ◌+◌, Bool, true, false, ◌&&◌, List, Option, Some, None, length, refl, ap, sym, ◌∙◌, subst, arith, inl, inr, ◌==◌, ◌⊎◌}
 use Rattle.std.proofs.lemmas.Bool.{cases_Bool, eqb-true}
 use Rattle.std.proofs.lemmas.Bool.Decides.{nat_tests}
 use Rattle.std.specs.Prelude.{IfSome, replicate, slice_get, if◌then◌else◌}
 use Rattle.framehop_callers.specs.Caller.{is_same}
 use Rattle.framehop_callers.specs.RegisterFile.{in_column, word_of, with_word, unknown}
 use Rattle.framehop_callers.proofs.Columns.{is-set, set-elsewhere}
+use Rattle.framehop_callers.specs.declared.convention.Convention.{Convention}
+use Rattle.framehop_callers.specs.declared.convention.Convention.TheVariants.{X86_64, Aarch64}
 use Rattle.framehop_callers.specs.declared.run.RunCaller.{RunCaller}
 use Rattle.framehop_callers.specs.declared.state.State.{State}
 use Rattle.framehop_callers.specs.Machine.{Machine}
-use Rattle.framehop_callers.specs.Run.{RA, alike, alike_below, common, caller_of, start, run_of, agree, both, agreed, caller_by_runs}
+use Rattle.framehop_callers.specs.Run.{program_counter, alike, alike_below, common, caller_of, start, run_of, agree, both, agreed, caller_by_runs}
 use Rattle.framehop_callers.specs.Sound.{Agrees, ReturnsTo, IsCallerOf, IsSound}
-use Rattle.framehop_callers.specs.State.{RSP}
+use Rattle.framehop_callers.specs.Convention.{program_counter_of}
+use Rattle.framehop_callers.specs.State.{stack_pointer}
 use Rattle.framehop_callers.specs.Step.{Source}
 use Rattle.framehop_callers.proofs.SoundLemmas.{Fits, set-some, run-fits}
 
@@ -41,7 +44,7 @@ none-known (suc n) (suc j) = none-known n j
 nothing-known : (j x : ℕ) → word_of unknown (record { 0 = j }) ≡ Some x → ⊥
 nothing-known j x is = (let none : None ≡ Some x = sym (none-known 33 j) ∙ is in cc)
 
-known-alike : (n : ℕ) (left right words : List (Option ℕ)) (j x : ℕ) → n < 33
+known-alike : (n : ℕ) (left right words : List (Option ℕ)) (j x : ℕ) → n ≤ 33
     → word_of (alike_below n left right words) (record { 0 = j }) ≡ Some x
     → (word_of words (record { 0 = j }) ≡ Some x) ⊎ (alike (word_of left (record { 0 = j })) (word_of right (record { 0 = j })) ≡ Some x)
 unfolding alike_below
@@ -64,97 +67,103 @@ known-alike (suc n) left right words j x below is =
       ]
     ]
 
-common-is : (left right : List (Option ℕ)) (j x : ℕ) → word_of (common left right) (record { 0 = j }) ≡ Some x
+few-columns : (convention : Convention) → program_counter_of convention + 1 ≤ 33
+few-columns X86_64 = omega arith
+few-columns Aarch64 = omega arith
+
+common-is : (convention : Convention) (left right : List (Option ℕ)) (j x : ℕ) → word_of (common convention left right) (record { 0 = j }) ≡ Some x
     → alike (word_of left (record { 0 = j })) (word_of right (record { 0 = j })) ≡ Some x
-common-is left right j x is =
-    elim (known-alike 17 left right unknown j x (omega arith) is) [
+common-is convention left right j x is =
+    elim (known-alike (program_counter_of convention + 1) left right unknown j x (few-columns convention) is) [
       | inl none ↦ absurd (nothing-known j x none)
       | inr known ↦ known
     ]
 
 -- ---- one run
 
-fitting-caller : (memory-is : ℕ → Option ℕ) (last : State) (now : Machine) → Fits memory-is last now → now.address ≡ last.address
-    → IsCallerOf (caller_of last) now
-fitting-caller memory-is last now fits here = record {
+fitting-caller : (memory-is : ℕ → Option ℕ) (convention : Convention) (last : State) (now : Machine) → Fits memory-is last now
+    → now.address ≡ last.address → IsCallerOf convention (caller_of convention last) now
+fitting-caller memory-is convention last now fits here = record {
   at = here;
   knows = λ j x below is.
-      let all : List (Option ℕ) = with_word last.registers RA (Some last.address) in
-      let known : word_of all (record { 0 = j }) ≡ Some x = alike-left (word_of all (record { 0 = j })) (word_of all (record { 0 = j })) x (common-is all all j x is) in
-      let apart : j ≢ 16 = λ equal. omega arith in
-      fits.knows j x (sym (set-elsewhere last.registers 16 j (Some last.address) (omega arith) apart) ∙ known);
+      let pc : ℕ = program_counter_of convention in
+      let few : pc + 1 ≤ 33 = few-columns convention in
+      let all : List (Option ℕ) = with_word last.registers (program_counter convention) (Some last.address) in
+      let known : word_of all (record { 0 = j }) ≡ Some x = alike-left (word_of all (record { 0 = j })) (word_of all (record { 0 = j })) x (common-is convention all all j x is) in
+      let apart : j ≢ pc = λ equal. omega arith in
+      fits.knows j x (sym (set-elsewhere last.registers pc j (Some last.address) (omega arith) apart) ∙ known);
 }
 
 run-is-of : (source : Source) (forward : Bool) (address : ℕ) (registers : List (Option ℕ)) (found : RunCaller) (before now : Machine)
     → length registers ≡ 33 → run_of source forward address registers ≡ Some found → Agrees source.memory (start address registers) before
-    → ReturnsTo source forward (start address registers) before now → IsCallerOf found now
+    → ReturnsTo source forward (start address registers) before now → IsCallerOf source.convention found now
 unfolding run_of
 run-is-of source forward address registers found before now long is agrees run =
     let fits : Fits source.memory (start address registers) before = record { long = long; knows = agrees.knows; remembers = agrees.remembers } in
     let there = run-fits source forward 1024 (start address registers) found before now fits is run in
-    subst (λ (c : RunCaller). IsCallerOf c now) there.3 (fitting-caller source.memory there.0 now there.1 there.2)
+    subst (λ (c : RunCaller). IsCallerOf source.convention c now) there.3 (fitting-caller source.memory source.convention there.0 now there.1 there.2)
 
 -- ---- both runs
 
 some-caller : (x y : RunCaller) → Some x ≡ Some y → x ≡ y
 some-caller x y is = cc
 
-left-both : (caller other : RunCaller) (now : Machine) → IsCallerOf caller now → IsCallerOf (both caller other) now
-left-both caller other now is = record {
+left-both : (convention : Convention) (caller other : RunCaller) (now : Machine) → IsCallerOf convention caller now → IsCallerOf convention (both convention caller other) now
+left-both convention caller other now is = record {
   at = is.at;
   knows = λ j x below known. is.knows j x below
-      (alike-left (word_of caller.registers (record { 0 = j })) (word_of other.registers (record { 0 = j })) x (common-is caller.registers other.registers j x known));
+      (alike-left (word_of caller.registers (record { 0 = j })) (word_of other.registers (record { 0 = j })) x (common-is convention caller.registers other.registers j x known));
 }
 
-right-both : (caller other : RunCaller) (now : Machine) → caller.return_address ≡ other.return_address → IsCallerOf other now
-    → IsCallerOf (both caller other) now
-right-both caller other now same is = record {
+right-both : (convention : Convention) (caller other : RunCaller) (now : Machine) → caller.return_address ≡ other.return_address → IsCallerOf convention other now
+    → IsCallerOf convention (both convention caller other) now
+right-both convention caller other now same is = record {
   at = is.at ∙ sym same;
   knows = λ j x below known. is.knows j x below
-      (alike-right (word_of caller.registers (record { 0 = j })) (word_of other.registers (record { 0 = j })) x (common-is caller.registers other.registers j x known));
+      (alike-right (word_of caller.registers (record { 0 = j })) (word_of other.registers (record { 0 = j })) x (common-is convention caller.registers other.registers j x known));
 }
 
 and-left : (x y : Bool) → (x && y) ≡ true → x ≡ true
 and-left true y is = refl
 and-left false y is = is
 
-left-agreed : (caller other found : RunCaller) (now : Machine) (same : Bool) → (if same then Some (both caller other) else None) ≡ Some found
-    → IsCallerOf caller now → IsCallerOf found now
-left-agreed caller other found now true is of = subst (λ (c : RunCaller). IsCallerOf c now) (some-caller (both caller other) found is) (left-both caller other now of)
-left-agreed caller other found now false is of = cc
+left-agreed : (convention : Convention) (caller other found : RunCaller) (now : Machine) (same : Bool) → (if same then Some (both convention caller other) else None) ≡ Some found
+    → IsCallerOf convention caller now → IsCallerOf convention found now
+left-agreed convention caller other found now true is of = subst (λ (c : RunCaller). IsCallerOf convention c now) (some-caller (both convention caller other) found is) (left-both convention caller other now of)
+left-agreed convention caller other found now false is of = cc
 
-right-agreed : (caller other found : RunCaller) (now : Machine) (same : Bool) → agree caller other ≡ same
-    → (if same then Some (both caller other) else None) ≡ Some found → IsCallerOf other now → IsCallerOf found now
-right-agreed caller other found now true same is of =
-    subst (λ (c : RunCaller). IsCallerOf c now) (some-caller (both caller other) found is)
-    (right-both caller other now (eqb-true caller.return_address other.return_address
-    (and-left (caller.return_address == other.return_address) (is_same (word_of caller.registers RSP) (word_of other.registers RSP)) same)) of)
-right-agreed caller other found now false same is of = cc
+right-agreed : (convention : Convention) (caller other found : RunCaller) (now : Machine) (same : Bool) → agree convention caller other ≡ same
+    → (if same then Some (both convention caller other) else None) ≡ Some found → IsCallerOf convention other now → IsCallerOf convention found now
+right-agreed convention caller other found now true same is of =
+    subst (λ (c : RunCaller). IsCallerOf convention c now) (some-caller (both convention caller other) found is)
+    (right-both convention caller other now (eqb-true caller.return_address other.return_address
+    (and-left (caller.return_address == other.return_address) (is_same (word_of caller.registers (stack_pointer convention)) (word_of other.registers (stack_pointer convention))) same)) of)
+right-agreed convention caller other found now false same is of = cc
 
-agreed-left : (straight forward : Option RunCaller) (found mine : RunCaller) (now : Machine) → agreed straight forward ≡ Some found
-    → straight ≡ Some mine → IsCallerOf mine now → IsCallerOf found now
-agreed-left None forward found mine now is own of = cc
-agreed-left (Some caller) None found mine now is own of =
-    subst (λ (c : RunCaller). IsCallerOf c now) (some-caller mine found (sym own ∙ is)) of
-agreed-left (Some caller) (Some other) found mine now is own of =
-    left-agreed caller other found now (agree caller other) is (subst (λ (c : RunCaller). IsCallerOf c now) (sym (some-caller caller mine own)) of)
+agreed-left : (convention : Convention) (straight forward : Option RunCaller) (found mine : RunCaller) (now : Machine) → agreed convention straight forward ≡ Some found
+    → straight ≡ Some mine → IsCallerOf convention mine now → IsCallerOf convention found now
+agreed-left convention None forward found mine now is own of = cc
+agreed-left convention (Some caller) None found mine now is own of =
+    subst (λ (c : RunCaller). IsCallerOf convention c now) (some-caller mine found (sym own ∙ is)) of
+agreed-left convention (Some caller) (Some other) found mine now is own of =
+    left-agreed convention caller other found now (agree convention caller other) is (subst (λ (c : RunCaller). IsCallerOf convention c now) (sym (some-caller caller mine own)) of)
 
-agreed-right : (straight forward : Option RunCaller) (found mine : RunCaller) (now : Machine) → agreed straight forward ≡ Some found
-    → forward ≡ Some mine → IsCallerOf mine now → IsCallerOf found now
-agreed-right None forward found mine now is own of =
-    subst (λ (c : RunCaller). IsCallerOf c now) (some-caller mine found (sym own ∙ is)) of
-agreed-right (Some caller) None found mine now is own of = cc
-agreed-right (Some caller) (Some other) found mine now is own of =
-    right-agreed caller other found now (agree caller other) refl is (subst (λ (c : RunCaller). IsCallerOf c now) (sym (some-caller other mine own)) of)
+agreed-right : (convention : Convention) (straight forward : Option RunCaller) (found mine : RunCaller) (now : Machine) → agreed convention straight forward ≡ Some found
+    → forward ≡ Some mine → IsCallerOf convention mine now → IsCallerOf convention found now
+agreed-right convention None forward found mine now is own of =
+    subst (λ (c : RunCaller). IsCallerOf convention c now) (some-caller mine found (sym own ∙ is)) of
+agreed-right convention (Some caller) None found mine now is own of = cc
+agreed-right convention (Some caller) (Some other) found mine now is own of =
+    right-agreed convention caller other found now (agree convention caller other) refl is (subst (λ (c : RunCaller). IsCallerOf convention c now) (sym (some-caller other mine own)) of)
 
 one-sound : (source : Source) (address : ℕ) (registers : List (Option ℕ)) (found : RunCaller)
-    → agreed (run_of source false address registers) (run_of source true address registers) ≡ Some found
+    → agreed source.convention (run_of source false address registers) (run_of source true address registers) ≡ Some found
     → IsSound source address registers found
 one-sound source address registers found is false mine before now long own agrees run =
-    agreed-left (run_of source false address registers) (run_of source true address registers) found mine now is own
+    agreed-left source.convention (run_of source false address registers) (run_of source true address registers) found mine now is own
     (run-is-of source false address registers mine before now long own agrees run)
 one-sound source address registers found is true mine before now long own agrees run =
-    agreed-right (run_of source false address registers) (run_of source true address registers) found mine now is own
+    agreed-right source.convention (run_of source false address registers) (run_of source true address registers) found mine now is own
     (run-is-of source true address registers mine before now long own agrees run)
 
 pub caller-sound : (source : Source) (address : ℕ) (registers : List (Option ℕ)) (result : Option RunCaller)

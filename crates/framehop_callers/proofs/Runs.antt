@@ -12,7 +12,7 @@ less-one : (n : ℕ) → 0 < n → n ≡ suc (n - 1)
 less-one n some = omega arith
 
 pub one_step : (source : Source) (forward : Bool) (n : ℕ) (state : State) → 0 < n
-    → run_from source forward n state ≡ onward (run_from source forward (n - 1)) (step_of source forward state)
+    → run_from source forward n state ≡ onward source.convention (run_from source forward (n - 1)) (step_of source forward state)
 unfolding run_from
 one_step source forward n state some = ap (λ (k : ℕ). run_from source forward k state) (less-one n some)
 
@@ -43,6 +43,6 @@ none_forgotten registers words = refl
 -- what a run comes to is what it goes on to after a step
 pub after_step : (source : Source) (forward : Bool) (n : ℕ) (state : State) (now : After) (whole : Option RunCaller) → 0 < n
     → now ≡ step_of source forward state → run_from source forward n state ≡ whole
-    → onward (run_from source forward (n - 1)) now ≡ whole
+    → onward source.convention (run_from source forward (n - 1)) now ≡ whole
 after_step source forward n state now whole some is before =
-    ap (onward (run_from source forward (n - 1))) is ∙ sym (one_step source forward n state some) ∙ before
+    ap (onward source.convention (run_from source forward (n - 1))) is ∙ sym (one_step source forward n state some) ∙ before

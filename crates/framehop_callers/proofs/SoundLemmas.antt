@@ -9,6 +9,8 @@ use Rattle.framehop_core.specs.Memory.{Memory}
 use Rattle.framehop_callers.specs.RegisterFile.{in_column, word_of, with_word}
 use Rattle.framehop_callers.proofs.Columns.{is-set, set-elsewhere, keeps-length}
 use Rattle.framehop_code.specs.X86_64.Action.{action_at}
+use Rattle.framehop_code.specs.Aarch64.Action.{actions_at}
+use Rattle.framehop_code.specs.declared.aarch64.action.Actions.{Actions}
 use Rattle.framehop_code.specs.declared.action.Action.{Action}
 use Rattle.framehop_code.specs.declared.action.Action.TheVariants as action
 use Rattle.framehop_code.specs.declared.action.Instruction.{Instruction}
@@ -24,17 +26,20 @@ use Rattle.framehop_code.specs.declared.action.Source.TheVariants as source
 use Rattle.framehop_code.specs.declared.action.Stored.{Stored}
 use Rattle.framehop_code.specs.declared.action.Width.{Width}
 use Rattle.framehop_code.specs.declared.action.Width.TheVariants.{Four, Eight}
+use Rattle.framehop_callers.specs.declared.convention.Convention.{Convention}
+use Rattle.framehop_callers.specs.declared.convention.Convention.TheVariants.{X86_64, Aarch64}
+use Rattle.framehop_callers.specs.Convention.{stack_pointer_of, scratch_of}
 use Rattle.framehop_callers.specs.declared.known.Write.{Write}
 use Rattle.framehop_callers.specs.declared.state.State.{State}
 use Rattle.framehop_callers.specs.Known.{is_at, stored}
 use Rattle.framehop_callers.specs.Machine.{Machine, base_value, index_value, address_value, IsPlace, IsOperand, IsValue, Sets, IsWrite, AreKept, IsKept}
-use Rattle.framehop_callers.specs.Sound.{Knows, Remembers, Writes, Puts, Pushes, Raises, Leaves, KeepsOthers, Changes, PassesOver, CallsTo, Calls, Does, DoesAt, way, ReturnsTo}
-use Rattle.framehop_callers.specs.State.{RCX, RBP, RSP, sum, difference, product, start_of, bytes_of, low, sign_extended, computed, computed_of, base_of, index_of, sum_of, address_of, place_of, number_at, operand_of, value_of, with_bytes, with_writes, with_register, put, pushed, pushed_at, raised_by, word_at, popped, leaving, is_in, forgotten_below, forgotten}
+use Rattle.framehop_callers.specs.Sound.{Knows, Remembers, Writes, Puts, Pushes, Raises, Leaves, KeepsOthers, Changes, PassesOver, CallsTo, Calls, Links, LinksTo, CallsByLink, Does, DoesThen, DoesAll, DoesAt, DoAt, Steps, way, ReturnsTo}
+use Rattle.framehop_callers.specs.State.{RCX, RBP, RSP, X30, stack_pointer, sum, difference, product, start_of, bytes_of, low, sign_extended, computed, computed_of, base_of, index_of, sum_of, address_of, place_of, number_at, operand_of, value_of, with_bytes, with_writes, with_register, put, pushed, pushed_at, raised_by, word_at, popped, leaving, is_in, forgotten_below, forgotten}
 use Rattle.framehop_callers.specs.declared.run.RunCaller.{RunCaller}
 use Rattle.framehop_callers.specs.Run.{caller_of, onward, run_from}
 use Rattle.framehop_callers.specs.Sound.ReturnsTo.{arrives, goes_on}
 use Rattle.framehop_callers.specs.Calls.{opened, noted}
-use Rattle.framehop_callers.specs.Step.{Source, After, goes, returns, given_up, at, on_at, changed, takes, with_loop, met, branched_by, branched, jumped, counted, scratch, passed_over_at, passed_over, with_calls, with_call_at, with_call, with_returns, with_return, entered, is_entered, called, is_own_return, left_call, returned, done, goes_by, returns_by, checked, stepped, step_of}
+use Rattle.framehop_callers.specs.Step.{Source, After, goes, returns, given_up, at, on_at, changed, takes, with_loop, met, branched_by, branched, jumped, counted, passed_over_at, passed_over, with_calls, with_call_at, with_call, with_returns, with_return, entered, linked, is_entered, called, called_by_link, is_own_return, left_call, returned, returned_by, done, then_done, all_done, goes_by, returns_by, checked, stepped, stepped_by, step_in, step_of}
 use Rattle.framehop_callers.proofs.StoreLemmas.{remembers-after}
 
 -- what the run knows of the processor's registers and memory
@@ -409,8 +414,8 @@ forgotten-fits : (memory : Memory) (state : State) (registers : ℕ) (before now
     → Knows state.registers before.registers → KeepsOthers registers before.registers now.registers
     → Remembers memory state.writes now.numbers → Fits memory (forgotten state registers) now
 forgotten-fits memory state registers before now long knows kept remembers = record {
-  long = long-forgotten registers 16 state.registers long;
-  knows = λ j x is. (let still = known-still registers 16 state.registers j x (omega arith) is in kept j still.1 ∙ knows j x still.0);
+  long = long-forgotten registers 32 state.registers long;
+  knows = λ j x is. (let still = known-still registers 32 state.registers j x (omega arith) is in kept j still.1 ∙ knows j x still.0);
   remembers = remembers;
 }
 
@@ -543,34 +548,54 @@ over-fits memory state after a before now fits write is =
     bytes-fit memory state after (Some a) a 0x10000 None (record now { numbers = before.numbers }) now fits (λ x same. some-eq a x same)
     write fits.knows (λ x none. cc) is
 
-passed-over-fits : (memory : Memory) (state : State) (next : ℕ) (sp : Option ℕ) (before now : Machine) → Fits memory state before
-    → ((x : ℕ) → sp ≡ Some x → before.registers 7 ≡ x) → PassesOver before now → now.address ≡ next
-    → FitsAfter memory (passed_over_at state next sp) now
-passed-over-fits memory state next None before now fits known passes here = tt
-passed-over-fits memory state next (Some sp) before now fits known passes here =
-    let below : difference (before.registers 7) 0x10000 ≡ difference sp 0x10000 = ap (λ x. difference x 0x10000) (known sp refl) in
+passed-over-fits : (memory : Memory) (convention : Convention) (state : State) (next : ℕ) (sp : Option ℕ) (before now : Machine) → Fits memory state before
+    → ((x : ℕ) → sp ≡ Some x → before.registers (stack_pointer_of convention) ≡ x) → PassesOver convention before now → now.address ≡ next
+    → FitsAfter memory (passed_over_at convention state next sp) now
+passed-over-fits memory convention state next None before now fits known passes here = tt
+passed-over-fits memory convention state next (Some sp) before now fits known passes here =
+    let scratch : ℕ = scratch_of convention in
+    let below : difference (before.registers (stack_pointer_of convention)) 0x10000 ≡ difference sp 0x10000 = ap (λ x. difference x 0x10000) (known sp refl) in
     on-at memory next (with_bytes (forgotten state scratch) (Some (difference sp 0x10000)) 0x10000 None) now here
     (λ s is. over-fits memory (forgotten state scratch) s (difference sp 0x10000) before now
     (forgotten-fits memory state scratch before (record now { numbers = before.numbers }) fits.long fits.knows passes.others fits.remembers)
     (subst (λ (x : ℕ). IsWrite x 0x10000 before.numbers now.numbers) below passes.elsewhere) is)
 
+over-by-convention : (source : Source) (state : State) (next : ℕ) (before now : Machine) → Fits source.memory state before
+    → PassesOver source.convention before now → now.address ≡ next
+    → FitsAfter source.memory (passed_over source.convention state next) now
+over-by-convention source state next before now fits passes here =
+    passed-over-fits source.memory source.convention state next (word_of state.registers (stack_pointer source.convention)) before now fits
+    (λ x known. fits.knows (stack_pointer_of source.convention) x known) passes here
+
 called-by : (source : Source) (state : State) (next target : ℕ) (enters : Bool) (before now : Machine) → Fits source.memory state before
-    → CallsTo enters next target before now
-    → FitsAfter source.memory (if enters then entered state next target else passed_over state next) now
+    → CallsTo source.convention enters next target before now
+    → FitsAfter source.memory (if enters then entered state next target else passed_over source.convention state next) now
 called-by source state next target true before now fits calls =
     on-at source.memory target (option_and_then (with_return next) (option_and_then with_call (pushed state (Some next)))) now calls.0
     (λ r noting. return-fits source.memory next r (option_and_then with_call (pushed state (Some next))) now
     (λ s is. entered-fits source.memory s (pushed state (Some next)) now
     (λ t pushes. pushed-fits source.memory state t (word_of state.registers RSP) (Some next) next before now fits (λ x known. fits.knows 7 x known)
     (λ x same. some-eq next x same) pushes calls.1) is) noting)
-called-by source state next target false before now fits calls =
-    passed-over-fits source.memory state next (word_of state.registers RSP) before now fits (λ x known. fits.knows 7 x known) calls.1 calls.0
+called-by source state next target false before now fits calls = over-by-convention source state next before now fits calls.1 calls.0
 
 called-fits : (source : Source) (state : State) (next : ℕ) (target : Option ℕ) (before now : Machine) → Fits source.memory state before
     → Calls source next target before now → FitsAfter source.memory (called source state next target) now
-called-fits source state next None before now fits calls =
-    passed-over-fits source.memory state next (word_of state.registers RSP) before now fits (λ x known. fits.knows 7 x known) calls.1 calls.0
+called-fits source state next None before now fits calls = over-by-convention source state next before now fits calls.1 calls.0
 called-fits source state next (Some target) before now fits calls = called-by source state next target (is_entered source target) before now fits calls
+
+linked-by : (source : Source) (state : State) (next target : ℕ) (enters : Bool) (before now : Machine) → Fits source.memory state before
+    → LinksTo source.convention enters next target before now
+    → FitsAfter source.memory (if enters then linked state next target else passed_over source.convention state next) now
+linked-by source state next target true before now fits calls =
+    on-at source.memory target (with_return next (with_register state X30 (Some next))) now calls.0
+    (λ s is. noted-fits source.memory (with_register state X30 (Some next)) s (noted state.after_calls next) now
+    (register-fits source.memory state 30 (Some next) next before now fits calls.1.link calls.1.memory (λ x same. some-eq next x same)) is)
+linked-by source state next target false before now fits calls = over-by-convention source state next before now fits calls.1 calls.0
+
+linked-fits : (source : Source) (state : State) (next : ℕ) (target : Option ℕ) (before now : Machine) → Fits source.memory state before
+    → CallsByLink source next target before now → FitsAfter source.memory (called_by_link source state next target) now
+linked-fits source state next None before now fits calls = over-by-convention source state next before now fits calls.1 calls.0
+linked-fits source state next (Some target) before now fits calls = linked-by source state next target (is_entered source target) before now fits calls
 
 returned-to-fits : (memory : Memory) (state : State) (address : ℕ) (none : Bool) (now : Machine) → Fits memory state now → now.address ≡ address
     → FitsAfter memory (if none then returns (at address state) else goes (at address (left_call state address))) now
@@ -580,6 +605,12 @@ returned-to-fits memory state address false now fits here = (
       (record { long = fits.long; knows = fits.knows; remembers = fits.remembers }),
   here,
 )
+
+returned-by-fits : (memory : Memory) (state : State) (address : Option ℕ) (real : ℕ) (now : Machine) → Fits memory state now
+    → ((x : ℕ) → address ≡ Some x → real ≡ x) → now.address ≡ real → FitsAfter memory (returned_by state address) now
+returned-by-fits memory state None real now fits known here = tt
+returned-by-fits memory state (Some address) real now fits known here =
+    returned-to-fits memory state address (is_own_return state address) now fits (here ∙ known address refl)
 
 -- rsp raised twice
 raised-once : Machine → Machine
@@ -670,6 +701,28 @@ done-fits source forward state next (action.Call from) before now fits does =
 done-fits source forward state next (action.Return bytes) before now fits does =
     returned-fits source.memory state bytes (word_at source.memory state RSP) before now fits
     (λ x known. word-is source.memory state 7 x before fits known) does.0 does.1 does.2
+done-fits source forward state next (action.BranchWithLink from) before now fits does =
+    linked-fits source state next (value_of source.memory state next Eight from) before now fits does
+done-fits source forward state next (action.ReturnTo register) before now fits does =
+    returned-by-fits source.memory state (word_of state.registers register) (before.registers register.0) now
+    (kept-fits source.memory state before now fits does.registers does.memory) (λ x known. fits.knows register.0 x known) does.at
+
+-- another action of the same instruction
+then-fits : (source : Source) (forward : Bool) (next : ℕ) (action : Option Action) (result : After) (before now : Machine)
+    → FitsAfter source.memory result before → DoesThen source forward next action result before now
+    → FitsAfter source.memory (then_done source forward next action result) now
+then-fits source forward next (Some does) (goes state) before now fits second = done-fits source forward state next does before now fits.0 second
+then-fits source forward next (Some does) (returns state) before now fits second = subst (λ (m : Machine). FitsAfter source.memory (returns state) m) (sym second) fits
+then-fits source forward next (Some does) given_up before now fits second = tt
+then-fits source forward next None result before now fits second = subst (λ (m : Machine). FitsAfter source.memory result m) (sym second) fits
+
+all-fit : (source : Source) (forward : Bool) (state : State) (next : ℕ) (actions : Actions) (before now : Machine)
+    → Fits source.memory state before → DoesAll source forward state next actions before now
+    → FitsAfter source.memory (all_done source forward state next actions) now
+all-fit source forward state next actions before now fits does =
+    then-fits source forward next actions.third (then_done source forward next actions.second (done source forward state next actions.first)) does.later now
+    (then-fits source forward next actions.second (done source forward state next actions.first) does.middle does.later
+    (done-fits source forward state next actions.first before does.middle fits does.first) does.second) does.third
 
 goes-fits : (memory : Memory) (state : State) (sp : Option ℕ) (now : Machine) → Fits memory state now × (now.address ≡ state.address)
     → FitsAfter memory (goes_by state sp) now
@@ -681,30 +734,47 @@ returns-fits : (memory : Memory) (state : State) (sp : Option ℕ) (now : Machin
 returns-fits memory state None now fits = tt
 returns-fits memory state (Some sp) now fits = (record { long = fits.0.long; knows = fits.0.knows; remembers = fits.0.remembers }, fits.1)
 
-checked-fits : (memory : Memory) (result : After) (now : Machine) → FitsAfter memory result now → FitsAfter memory (checked result) now
-checked-fits memory (goes state) now fits = goes-fits memory state (word_of state.registers RSP) now fits
-checked-fits memory (returns state) now fits = returns-fits memory state (word_of state.registers RSP) now fits
-checked-fits memory given_up now fits = tt
+checked-fits : (memory : Memory) (convention : Convention) (result : After) (now : Machine) → FitsAfter memory result now
+    → FitsAfter memory (checked convention result) now
+checked-fits memory convention (goes state) now fits = goes-fits memory state (word_of state.registers (stack_pointer convention)) now fits
+checked-fits memory convention (returns state) now fits = returns-fits memory state (word_of state.registers (stack_pointer convention)) now fits
+checked-fits memory convention given_up now fits = tt
 
 stepped-fits : (source : Source) (forward : Bool) (state : State) (instruction : Option Instruction) (before now : Machine)
     → Fits source.memory state before → DoesAt source forward state instruction before now
     → FitsAfter source.memory (stepped source forward state instruction) now
 stepped-fits source forward state None before now fits does = absurd does
 stepped-fits source forward state (Some i) before now fits does =
-    checked-fits source.memory (done source forward state (sum state.address i.size) i.action) now
+    checked-fits source.memory source.convention (done source forward state (sum state.address i.size) i.action) now
     (done-fits source forward state (sum state.address i.size) i.action before now fits does)
 
+stepped-by-fits : (source : Source) (forward : Bool) (state : State) (actions : Option Actions) (before now : Machine)
+    → Fits source.memory state before → DoAt source forward state actions before now
+    → FitsAfter source.memory (stepped_by source forward state actions) now
+stepped-by-fits source forward state None before now fits does = absurd does
+stepped-by-fits source forward state (Some actions) before now fits does =
+    checked-fits source.memory source.convention (all_done source forward state (sum state.address 4) actions) now
+    (all-fit source forward state (sum state.address 4) actions before now fits does)
+
+step-in-fits : (source : Source) (convention : Convention) (forward : Bool) (state : State) (before now : Machine)
+    → Fits source.memory state before → Steps convention source forward state before now
+    → FitsAfter source.memory (step_in convention source forward state) now
+step-in-fits source X86_64 forward state before now fits steps =
+    stepped-fits source forward state (action_at (source.code state.address) 0) before now fits steps
+step-in-fits source Aarch64 forward state before now fits steps =
+    stepped-by-fits source forward state (actions_at (source.code state.address) 0) before now fits steps
+
 step-fits : (source : Source) (forward : Bool) (state : State) (before now : Machine) → Fits source.memory state before
-    → DoesAt source forward state (action_at (source.code state.address) 0) before now
+    → Steps source.convention source forward state before now
     → FitsAfter source.memory (step_of source forward state) now
 unfolding step_of
-step-fits source forward state before now fits does =
-    stepped-fits source forward state (action_at (source.code state.address) 0) before now fits does
+step-fits source forward state before now fits steps =
+    step-in-fits source source.convention forward state before now fits steps
 
 -- ---- a run
 
 onward-is : (source : Source) (forward : Bool) (n : ℕ) (state : State)
-    → run_from source forward (suc n) state ≡ onward (run_from source forward n) (step_of source forward state)
+    → run_from source forward (suc n) state ≡ onward source.convention (run_from source forward n) (step_of source forward state)
 unfolding run_from
 onward-is source forward n state = refl
 
@@ -715,13 +785,13 @@ nothing-is source forward state = refl
 -- the processor comes to a state that is returned to
 pub run-fits : (source : Source) (forward : Bool) (n : ℕ) (state : State) (caller : RunCaller) (before now : Machine)
     → Fits source.memory state before → run_from source forward n state ≡ Some caller → ReturnsTo source forward state before now
-    → (last : State) × Fits source.memory last now × (now.address ≡ last.address) × (caller_of last ≡ caller)
+    → (last : State) × Fits source.memory last now × (now.address ≡ last.address) × (caller_of source.convention last ≡ caller)
 run-fits source forward zero state caller before now fits is run = (let none : None ≡ Some caller = sym (nothing-is source forward state) ∙ is in cc)
 run-fits source forward (suc n) state caller before now fits is (arrives s last b m steps does) =
     let there = subst (λ (a : After). FitsAfter source.memory a now) steps (step-fits source forward state before now fits does) in
-    let same : Some (caller_of last) ≡ Some caller = sym (ap (onward (run_from source forward n)) steps) ∙ sym (onward-is source forward n state) ∙ is in
+    let same : Some (caller_of source.convention last) ≡ Some caller = sym (ap (onward source.convention (run_from source forward n)) steps) ∙ sym (onward-is source forward n state) ∙ is in
     (last, there.0, there.1, cc)
 run-fits source forward (suc n) state caller before now fits is (goes_on s next b middle m steps does run) =
     let there = subst (λ (a : After). FitsAfter source.memory a middle) steps (step-fits source forward state before middle fits does) in
     run-fits source forward n next caller middle now there.0
-    (sym (ap (onward (run_from source forward n)) steps) ∙ sym (onward-is source forward n state) ∙ is) run
+    (sym (ap (onward source.convention (run_from source forward n)) steps) ∙ sym (onward-is source forward n state) ∙ is) run

@@ -20,6 +20,12 @@ abbrev pub return_address_of : Convention → ℕ
 return_address_of X86_64 = RA
 return_address_of Aarch64 = X30
 
+-- the registers that a function need not keep, a bit for each by its column: rax, rcx, rdx, rsi, rdi and r8 to r11 (System
+-- V ABI, figure 3.4); x0 to x18 and x30 (Procedure Call Standard, section 6.1.1)
+abbrev pub scratch_of : Convention → ℕ
+scratch_of X86_64 = 0x0F37
+scratch_of Aarch64 = 0x4007FFFF
+
 -- a function that doesn't save it leaves the register as it was: rbx, rbp, r12 to r15 (System V ABI, figure 3.4); x19
 -- to x29 (Procedure Call Standard, section 6.1.1), and x30, by which a function returns that has not saved it
 abbrev pub keeps : Convention → ℕ → Bool

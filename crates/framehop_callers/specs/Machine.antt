@@ -1,6 +1,6 @@
 -- What the processor does, over the values of all registers and of memory (Intel 64 and IA-32 Architectures Software
--- Developer's Manual, volume 1, sections 3.4, 3.5 and 3.7, and volume 2 for each instruction). Flags and vector registers
--- aren't described, so a conditional jump may lead either way.
+-- Developer's Manual, volume 1, sections 3.4, 3.5 and 3.7, and volume 2 for each instruction; Arm Architecture Reference
+-- Manual for A-profile). Flags and vector registers aren't described, so a conditional jump may lead either way.
 use Rattle.std.specs.Prelude.{◌≡◌, ◌≢◌, ℕ, false, Option, Some, None}
 use Rattle.framehop_cfi.specs.declared.rule.Register.{Register}
 use Rattle.framehop_code.specs.declared.action.Address.{Address}

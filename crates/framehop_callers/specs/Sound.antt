@@ -5,6 +5,8 @@ use Rattle.std.specs.Prelude.{◌≡◌, ◌≢◌, ℕ, ◌<◌, Bool, true, fa
 use Rattle.framehop_core.specs.Memory.{Memory}
 use Rattle.framehop_callers.specs.RegisterFile.{word_of}
 use Rattle.framehop_code.specs.X86_64.Action.{action_at}
+use Rattle.framehop_code.specs.Aarch64.Action.{actions_at}
+use Rattle.framehop_code.specs.declared.aarch64.action.Actions.{Actions}
 use Rattle.framehop_code.specs.declared.action.Action.{Action}
 use Rattle.framehop_code.specs.declared.action.Action.TheVariants as action
 use Rattle.framehop_code.specs.declared.action.Instruction.{Instruction}
@@ -13,6 +15,9 @@ use Rattle.framehop_code.specs.declared.action.Operand.TheVariants as operand
 use Rattle.framehop_code.specs.declared.action.Stored.{Stored}
 use Rattle.framehop_code.specs.declared.action.Width.{Width}
 use Rattle.framehop_code.specs.declared.action.Width.TheVariants.{Eight}
+use Rattle.framehop_callers.specs.declared.convention.Convention.{Convention}
+use Rattle.framehop_callers.specs.declared.convention.Convention.TheVariants.{X86_64, Aarch64}
+use Rattle.framehop_callers.specs.Convention.{stack_pointer_of, program_counter_of, scratch_of}
 use Rattle.framehop_callers.specs.declared.known.Write.{Write}
 use Rattle.framehop_callers.specs.declared.run.RunCaller.{RunCaller}
 use Rattle.framehop_callers.specs.declared.state.State.{State}
@@ -20,7 +25,7 @@ use Rattle.framehop_callers.specs.Known.{loaded}
 use Rattle.framehop_callers.specs.Machine.{Machine, address_value, IsPlace, IsOperand, IsValue, Sets, IsWrite, AreKept, IsKept}
 use Rattle.framehop_callers.specs.Run.{start, run_of}
 use Rattle.framehop_callers.specs.State.{sum, difference, low, bytes_of, computed, place_of, value_of, raised_by, is_in}
-use Rattle.framehop_callers.specs.Step.{Source, takes, goes, returns, scratch, is_entered, step_of}
+use Rattle.framehop_callers.specs.Step.{Source, After, takes, goes, returns, given_up, done, then_done, is_entered, step_of}
 
 -- ---- agreement
 
@@ -65,7 +70,7 @@ Changes memory state next None before now = IsKept before.numbers now
 -- the registers that aren't in a set are kept
 abbrev pub KeepsOthers : ℕ → (ℕ → ℕ) → (ℕ → ℕ) → Type 0
 KeepsOthers registers before now =
-    (column : ℕ) → (nat_lt column 16 && is_in registers column) ≡ false → now column ≡ before column
+    (column : ℕ) → (nat_lt column 32 && is_in registers column) ≡ false → now column ≡ before column
 
 -- PUSH of a value, by rsp, column 7
 pub record Pushes (value : ℕ) (before now : Machine) : Type 0 where
@@ -74,10 +79,10 @@ pub record Pushes (value : ℕ) (before now : Machine) : Type 0 where
   pub word : now.numbers (difference (before.registers 7) 8) 8 ≡ value
 
 -- a function that the calling convention binds: it keeps the registers that aren't scratch, and writes the 64 KiB
--- below rsp only
-pub record PassesOver (before now : Machine) : Type 0 where
-  pub others : KeepsOthers scratch before.registers now.registers
-  pub elsewhere : IsWrite (difference (before.registers 7) 0x10000) 0x10000 before.numbers now.numbers
+-- below the stack pointer only
+pub record PassesOver (convention : Convention) (before now : Machine) : Type 0 where
+  pub others : KeepsOthers (scratch_of convention) before.registers now.registers
+  pub elsewhere : IsWrite (difference (before.registers (stack_pointer_of convention)) 0x10000) 0x10000 before.numbers now.numbers
 
 -- rsp gets so many bytes more
 pub record Raises (bytes : ℕ) (before now : Machine) : Type 0 where
@@ -98,14 +103,27 @@ pub record Leads (address : ℕ) (before now : Machine) : Type 0 where
   pub memory : IsKept before.numbers now.numbers
 
 -- a call that the run enters goes to its target, and one that it passes over comes back
-abbrev pub CallsTo : Bool → ℕ → ℕ → Machine → Machine → Type 0
-CallsTo true next target before now = (now.address ≡ target) × Pushes next before now
-CallsTo false next target before now = (now.address ≡ next) × PassesOver before now
+abbrev pub CallsTo : Convention → Bool → ℕ → ℕ → Machine → Machine → Type 0
+CallsTo convention true next target before now = (now.address ≡ target) × Pushes next before now
+CallsTo convention false next target before now = (now.address ≡ next) × PassesOver convention before now
 
 -- by the target that the run knows
 abbrev pub Calls : Source → ℕ → Option ℕ → Machine → Machine → Type 0
-Calls source next (Some target) before now = CallsTo (is_entered source target) next target before now
-Calls source next None before now = (now.address ≡ next) × PassesOver before now
+Calls source next (Some target) before now = CallsTo source.convention (is_entered source target) next target before now
+Calls source next None before now = (now.address ≡ next) × PassesOver source.convention before now
+
+-- BL and BLR: x30, column 30, has the address of the next instruction
+pub record Links (next : ℕ) (before now : Machine) : Type 0 where
+  pub link : Sets 30 next before.registers now.registers
+  pub memory : IsKept before.numbers now.numbers
+
+abbrev pub LinksTo : Convention → Bool → ℕ → ℕ → Machine → Machine → Type 0
+LinksTo convention true next target before now = (now.address ≡ target) × Links next before now
+LinksTo convention false next target before now = (now.address ≡ next) × PassesOver convention before now
+
+abbrev pub CallsByLink : Source → ℕ → Option ℕ → Machine → Machine → Type 0
+CallsByLink source next (Some target) before now = LinksTo source.convention (is_entered source target) next target before now
+CallsByLink source next None before now = (now.address ≡ next) × PassesOver source.convention before now
 
 -- the way of a conditional jump that the run takes
 abbrev pub way : State → Bool → ℕ → ℕ → ℕ
@@ -141,11 +159,39 @@ Does source forward state next (action.Call from) before now =
 Does source forward state next (action.Return bytes) before now =
     (now.address ≡ before.numbers (before.registers 7) 8)
     × Sets 7 (sum (sum (before.registers 7) 8) bytes) before.registers now.registers × IsKept before.numbers now.numbers
+Does source forward state next (action.BranchWithLink from) before now =
+    CallsByLink source next (value_of source.memory state next Eight from) before now
+Does source forward state next (action.ReturnTo register) before now = Leads (before.registers register.0) before now
+
+-- another action of the same instruction, where the one before it leads on
+abbrev pub DoesThen : Source → Bool → ℕ → Option Action → After → Machine → Machine → Type 0
+DoesThen source forward next (Some action) (goes state) before now = Does source forward state next action before now
+DoesThen source forward next (Some action) (returns state) before now = now ≡ before
+DoesThen source forward next (Some action) given_up before now = Unit {0}
+DoesThen source forward next None result before now = now ≡ before
+
+-- the actions of an instruction, one after another
+pub record DoesAll (source : Source) (forward : Bool) (state : State) (next : ℕ) (actions : Actions) (before now : Machine) : Type 0 where
+  pub middle : Machine
+  pub later : Machine
+  pub first : Does source forward state next actions.first before middle
+  pub second : DoesThen source forward next actions.second (done source forward state next actions.first) middle later
+  pub third : DoesThen source forward next actions.third
+      (then_done source forward next actions.second (done source forward state next actions.first)) later now
 
 abbrev pub DoesAt : Source → Bool → State → Option Instruction → Machine → Machine → Type 0
 DoesAt source forward state (Some instruction) before now =
     Does source forward state (sum state.address instruction.size) instruction.action before now
 DoesAt source forward state None before now = ⊥
+
+abbrev pub DoAt : Source → Bool → State → Option Actions → Machine → Machine → Type 0
+DoAt source forward state (Some actions) before now = DoesAll source forward state (sum state.address 4) actions before now
+DoAt source forward state None before now = ⊥
+
+-- the instruction at the state's address
+abbrev pub Steps : Convention → Source → Bool → State → Machine → Machine → Type 0
+Steps X86_64 source forward state before now = DoesAt source forward state (action_at (source.code state.address) 0) before now
+Steps Aarch64 source forward state before now = DoAt source forward state (actions_at (source.code state.address) 0) before now
 
 -- ---- a run
 
@@ -153,17 +199,18 @@ DoesAt source forward state None before now = ⊥
 -- returns.
 pub data ReturnsTo (source : Source) (forward : Bool) : State → Machine → Machine → Type 0 where
   arrives : (state last : State) (before now : Machine) → step_of source forward state ≡ returns last
-      → DoesAt source forward state (action_at (source.code state.address) 0) before now
+      → Steps source.convention source forward state before now
       → ReturnsTo source forward state before now
   goes_on : (state next : State) (before middle now : Machine) → step_of source forward state ≡ goes next
-      → DoesAt source forward state (action_at (source.code state.address) 0) before middle
+      → Steps source.convention source forward state before middle
       → ReturnsTo source forward next middle now → ReturnsTo source forward state before now
 
--- a caller is that of a machine: it is at the return address, and has the values that are known of the 16 registers
-pub record IsCallerOf (caller : RunCaller) (machine : Machine) : Type 0 where
+-- a caller is that of a machine: it is at the return address, and its general registers, whose columns are below the program
+-- counter's, have the values that are known
+pub record IsCallerOf (convention : Convention) (caller : RunCaller) (machine : Machine) : Type 0 where
   pub at : machine.address ≡ caller.return_address
-  pub knows : (column value : ℕ) → column < 16 → word_of caller.registers (record { 0 = column }) ≡ Some value
-      → machine.registers column ≡ value
+  pub knows : (column value : ℕ) → column < program_counter_of convention
+      → word_of caller.registers (record { 0 = column }) ≡ Some value → machine.registers column ≡ value
 
 -- What is returned for a frame, whose register file has 33 columns, is the caller of the processor: where one of the two runs comes to a caller, and the
 -- processor agrees with what is known of the frame and returns along that run, it comes to the return address with the
@@ -173,4 +220,4 @@ IsSound source address registers caller =
     (forward : Bool) (found : RunCaller) (before now : Machine) → length registers ≡ 33
     → run_of source forward address registers ≡ Some found
     → Agrees source.memory (start address registers) before
-    → ReturnsTo source forward (start address registers) before now → IsCallerOf caller now
+    → ReturnsTo source forward (start address registers) before now → IsCallerOf source.convention caller now

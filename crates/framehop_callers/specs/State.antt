@@ -1,5 +1,5 @@
 -- What a run knows of the values that an instruction uses, and after it (Intel 64 and IA-32 Architectures Software
--- Developer's Manual, volume 1, sections 3.4 and 3.7).
+-- Developer's Manual, volume 1, sections 3.4 and 3.7; Arm Architecture Reference Manual for A-profile).
 use Rattle.std.specs.Prelude.{ℕ, zero, suc, ◌+◌, ◌-◌, ◌*◌, ◌/◌, ◌%◌, ◌^◌, Bool, true, false, ◌==◌, nat_lt, if◌then◌else◌, List, Option, Some, None, option_map, bit_and, bit_or, bit_xor}
 use Rattle.framehop_cfi.specs.declared.rule.Register.{Register}
 use Rattle.framehop_core.specs.Memory.{Memory}
@@ -16,6 +16,8 @@ use Rattle.framehop_code.specs.declared.action.Width.{Width}
 use Rattle.framehop_code.specs.declared.action.Width.TheVariants.{Four, Eight}
 use Rattle.framehop_code.specs.declared.action.Computation.{Computation}
 use Rattle.framehop_code.specs.declared.action.Computation.TheVariants.{Add, Subtract, And, Or, ExclusiveOr}
+use Rattle.framehop_callers.specs.declared.convention.Convention.{Convention}
+use Rattle.framehop_callers.specs.Convention.{stack_pointer_of}
 use Rattle.framehop_callers.specs.declared.known.Write.{Write}
 use Rattle.framehop_callers.specs.declared.state.State.{State}
 use Rattle.framehop_callers.specs.Known.{loaded, stored}
@@ -29,6 +31,14 @@ RBP = record { 0 = 6 }
 
 abbrev pub RSP : Register
 RSP = record { 0 = 7 }
+
+-- x30, the link register of aarch64 (DWARF for the Arm 64-bit Architecture)
+abbrev pub X30 : Register
+X30 = record { 0 = 30 }
+
+-- the stack pointer of a processor
+abbrev pub stack_pointer : Convention → Register
+stack_pointer convention = record { 0 = stack_pointer_of convention }
 
 -- ---- numbers
 
@@ -179,4 +189,4 @@ forgotten_below registers (suc n) words =
 
 -- any value may be in these registers
 abbrev pub forgotten : State → ℕ → State
-forgotten state registers = record state { registers = forgotten_below registers 16 state.registers }
+forgotten state registers = record state { registers = forgotten_below registers 32 state.registers }

@@ -4,19 +4,25 @@ use Rattle.std.specs.List.{filter}
 use Rattle.framehop_core.specs.Memory.{Memory}
 use Rattle.framehop_callers.specs.RegisterFile.{word_of}
 use Rattle.framehop_code.specs.X86_64.Action.{action_at}
+use Rattle.framehop_code.specs.Aarch64.Action.{actions_at}
+use Rattle.framehop_code.specs.declared.aarch64.action.Actions.{Actions}
 use Rattle.framehop_code.specs.declared.action.Instruction.{Instruction}
 use Rattle.framehop_code.specs.declared.action.Action.{Action}
 use Rattle.framehop_code.specs.declared.action.Action.TheVariants as action
 use Rattle.framehop_code.specs.declared.action.Stored.{Stored}
 use Rattle.framehop_code.specs.declared.action.Width.TheVariants.{Eight}
+use Rattle.framehop_callers.specs.declared.convention.Convention.{Convention}
+use Rattle.framehop_callers.specs.declared.convention.Convention.TheVariants.{X86_64, Aarch64}
+use Rattle.framehop_callers.specs.Convention.{scratch_of}
 use Rattle.framehop_callers.specs.declared.state.State.{State}
 use Rattle.framehop_callers.specs.declared.step.Step.{Step}
 use Rattle.framehop_callers.specs.declared.step.Step.TheVariants.{Goes, Returns, GivenUp}
 use Rattle.framehop_callers.specs.Calls.{is_none, opened, has, noted, without}
-use Rattle.framehop_callers.specs.State.{RCX, RSP, sum, difference, place_of, address_of, operand_of, value_of, computed_of, with_register, with_bytes, put, pushed, raised_by, word_at, popped, leaving, forgotten}
+use Rattle.framehop_callers.specs.State.{RCX, RSP, X30, stack_pointer, sum, difference, place_of, address_of, operand_of, value_of, computed_of, with_register, with_bytes, put, pushed, raised_by, word_at, popped, leaving, forgotten}
 
--- what a run reads: memory, code, and which functions unwind data covers
+-- what a run reads: memory, code, and which functions unwind data covers; and the calling convention of its processor
 pub record Source : Type 0 where
+  pub convention : Convention
   pub memory : Memory
   pub code : ℕ → List ℕ
   pub is_covered : ℕ → Bool
@@ -85,18 +91,14 @@ jumped state None = given_up
 
 -- ---- calls and returns
 
--- rax, rcx, rdx, rsi, rdi and r8 to r11 (System V ABI for AMD64, figure 3.4), by their DWARF columns
-abbrev pub scratch : ℕ
-scratch = 0x0F37
-
 -- a call is passed over: the function may write the 64 KiB below the stack pointer
-abbrev pub passed_over_at : State → ℕ → Option ℕ → After
-passed_over_at state next (Some sp) =
-    on_at next (with_bytes (forgotten state scratch) (Some (difference sp 0x10000)) 0x10000 None)
-passed_over_at state next None = given_up
+abbrev pub passed_over_at : Convention → State → ℕ → Option ℕ → After
+passed_over_at convention state next (Some sp) =
+    on_at next (with_bytes (forgotten state (scratch_of convention)) (Some (difference sp 0x10000)) 0x10000 None)
+passed_over_at convention state next None = given_up
 
-abbrev pub passed_over : State → ℕ → After
-passed_over state next = passed_over_at state next (word_of state.registers RSP)
+abbrev pub passed_over : Convention → State → ℕ → After
+passed_over convention state next = passed_over_at convention state next (word_of state.registers (stack_pointer convention))
 
 -- a call is entered: its return address is pushed, and is where the stack pointer is
 abbrev pub with_calls : State → Option (List ℕ) → Option State
@@ -132,8 +134,17 @@ is_entered source target = not (source.is_covered target) && has_some (source.co
 
 abbrev pub called : Source → State → ℕ → Option ℕ → After
 called source state next (Some target) =
-    if is_entered source target then entered state next target else passed_over state next
-called source state next None = passed_over state next
+    if is_entered source target then entered state next target else passed_over source.convention state next
+called source state next None = passed_over source.convention state next
+
+-- a function that is entered by BL or BLR returns by x30
+abbrev pub linked : State → ℕ → ℕ → After
+linked state next target = on_at target (with_return next (with_register state X30 (Some next)))
+
+abbrev pub called_by_link : Source → State → ℕ → Option ℕ → After
+called_by_link source state next (Some target) =
+    if is_entered source target then linked state next target else passed_over source.convention state next
+called_by_link source state next None = passed_over source.convention state next
 
 -- It is the function's own return where no call of the run is open, and it leads to no instruction after a call that the
 -- run has entered and not returned from: such a function may have moved its return address on the stack.
@@ -150,6 +161,10 @@ returned_to state address =
 abbrev pub returned : State → ℕ → Option ℕ → After
 returned state bytes (Some address) = returned_to (raised_by (raised_by state 8) bytes) address
 returned state bytes None = given_up
+
+abbrev pub returned_by : State → Option ℕ → After
+returned_by state (Some address) = returned_to state address
+returned_by state None = given_up
 
 -- ---- a step
 
@@ -173,6 +188,22 @@ done source forward state next (action.Jump from) = jumped state (value_of sourc
 done source forward state next (action.Call from) =
     called source state next (value_of source.memory state next Eight from)
 done source forward state next (action.Return bytes) = returned state bytes (word_at source.memory state RSP)
+done source forward state next (action.BranchWithLink from) =
+    called_by_link source state next (value_of source.memory state next Eight from)
+done source forward state next (action.ReturnTo register) = returned_by state (word_of state.registers register)
+
+-- another action of the same instruction
+abbrev pub then_done : Source → Bool → ℕ → Option Action → After → After
+then_done source forward next (Some action) (goes state) = done source forward state next action
+then_done source forward next (Some action) (returns state) = returns state
+then_done source forward next (Some action) given_up = given_up
+then_done source forward next None result = result
+
+-- an instruction of up to three actions
+abbrev pub all_done : Source → Bool → State → ℕ → Actions → After
+all_done source forward state next actions =
+    then_done source forward next actions.third
+    (then_done source forward next actions.second (done source forward state next actions.first))
 
 -- calls are over whose return address is no longer on the stack
 abbrev pub closed_below : ℕ → State → State
@@ -187,16 +218,26 @@ abbrev pub returns_by : State → Option ℕ → After
 returns_by state (Some sp) = returns (closed_below sp state)
 returns_by state None = given_up
 
-abbrev pub checked : After → After
-checked (goes state) = goes_by state (word_of state.registers RSP)
-checked (returns state) = returns_by state (word_of state.registers RSP)
-checked given_up = given_up
+abbrev pub checked : Convention → After → After
+checked convention (goes state) = goes_by state (word_of state.registers (stack_pointer convention))
+checked convention (returns state) = returns_by state (word_of state.registers (stack_pointer convention))
+checked convention given_up = given_up
 
 abbrev pub stepped : Source → Bool → State → Option Instruction → After
 stepped source forward state (Some instruction) =
-    checked (done source forward state (sum state.address instruction.size) instruction.action)
+    checked source.convention (done source forward state (sum state.address instruction.size) instruction.action)
 stepped source forward state None = given_up
+
+-- each instruction of aarch64 has four bytes
+abbrev pub stepped_by : Source → Bool → State → Option Actions → After
+stepped_by source forward state (Some actions) =
+    checked source.convention (all_done source forward state (sum state.address 4) actions)
+stepped_by source forward state None = given_up
+
+abbrev pub step_in : Convention → Source → Bool → State → After
+step_in X86_64 source forward state = stepped source forward state (action_at (source.code state.address) 0)
+step_in Aarch64 source forward state = stepped_by source forward state (actions_at (source.code state.address) 0)
 
 -- the step by the instruction at the state's address
 unfoldable pub step_of : Source → Bool → State → After
-step_of source forward state = stepped source forward state (action_at (source.code state.address) 0)
+step_of source forward state = step_in source.convention source forward state

@@ -1,9 +1,10 @@
 //! What a calling convention says of columns that a row doesn't name.
 ghost use Rattle.std.specs.Prelude.{◌≡◌, ◌&&◌, nat_le};
-ghost use Rattle.framehop_callers.specs.Convention.{stack_pointer_of, program_counter_of, return_address_of, keeps};
+ghost use Rattle.framehop_callers.specs.Convention.{stack_pointer_of, program_counter_of, return_address_of, scratch_of, keeps};
 
 use framehop_cfi::rule::Register;
 use framehop_cfi::{aarch64, x86_64};
+use framehop_code::action::Registers;
 
 /// The calling convention of an architecture.
 #[derive(Clone, Copy, Debug, PartialEq, Eq)]
@@ -42,6 +43,17 @@ impl Convention {
         match self {
             Convention::X86_64 => x86_64::RA,
             Convention::Aarch64 => aarch64::X30,
+        }
+    }
+
+    /// Returns the registers that a function need not keep: of x86_64 rax, rcx, rdx, rsi, rdi and r8 to r11, of aarch64 x0 to
+    /// x18 and x30.
+    pub(crate) fn scratch(self) -> Registers
+        ensures { result ≡ record { 0 = scratch_of self } }
+    {
+        match self {
+            Convention::X86_64 => Registers(0x0f37),
+            Convention::Aarch64 => Registers(0x4007_ffff),
         }
     }
 

@@ -1,17 +1,17 @@
 //! The caller of a frame by runs of its code to the function's return.
 ghost use Rattle.std.specs.Prelude.{◌≡◌, IfSome, true, false};
 ghost use Rattle.framehop_callers.specs.Caller.{is_same};
-ghost use Rattle.framehop_callers.specs.RegisterFile.{word_of};
-ghost use Rattle.framehop_callers.specs.Run.{alike, common, caller_of, run_from, run_of, agree, both, agreed, caller_by_runs};
+ghost use Rattle.framehop_callers.specs.RegisterFile.{word_of, unknown};
+ghost use Rattle.framehop_callers.specs.Run.{alike, alike_below, common, caller_of, run_from, run_of, agree, both, agreed, caller_by_runs};
 ghost use Rattle.framehop_callers.specs.Sound.{IsSound};
 
 use crate::calls::Calls;
+use crate::convention::Convention;
 use crate::known::Writes;
 use crate::register_file::RegisterFile;
 use crate::state::State;
 use crate::step::{RunMemory, Step};
 use framehop_cfi::rule::Register;
-use framehop_cfi::x86_64::{RA, RSP};
 
 /// How many instructions a run does at most.
 const MOST_STEPS: u32 = 1024;
@@ -21,7 +21,7 @@ const MOST_STEPS: u32 = 1024;
 pub struct RunCaller {
     /// The return address (AVMA).
     pub return_address: u64,
-    /// The general registers after the return, each known or not, and the return address as rip. rsp is known.
+    /// The general registers after the return, each known or not, and the return address as rip or pc. The stack pointer is known.
     pub registers: RegisterFile,
 }
 
@@ -37,12 +37,12 @@ pub fn caller_by_runs<M: RunMemory>(
     address: u64,
     registers: &RegisterFile,
 ) -> Option<RunCaller>
-    ensures exact { result ≡ caller_by_runs (record { memory = M.WordMemory.memory memory.now; code = M.code memory.now; is_covered = M.covers memory.now }) address registers.now }
-    ensures sound { IfSome result (IsSound (record { memory = M.WordMemory.memory memory.now; code = M.code memory.now; is_covered = M.covers memory.now }) address registers.now) }
+    ensures exact { result ≡ caller_by_runs (record { convention = M.convention memory.now; memory = M.WordMemory.memory memory.now; code = M.code memory.now; is_covered = M.covers memory.now }) address registers.now }
+    ensures sound { IfSome result (IsSound (record { convention = M.convention memory.now; memory = M.WordMemory.memory memory.now; code = M.code memory.now; is_covered = M.covers memory.now }) address registers.now) }
 {
     let straight = run(memory, false, address, registers);
     let forward = run(memory, true, address, registers);
-    agreed(straight, forward)
+    agreed(memory.convention(), straight, forward)
 }
 
 /// Returns the caller that a run comes to.
@@ -53,7 +53,7 @@ fn run<M: RunMemory>(
     address: u64,
     registers: &RegisterFile,
 ) -> Option<RunCaller>
-    ensures { result ≡ run_of (record { memory = M.WordMemory.memory memory.now; code = M.code memory.now; is_covered = M.covers memory.now }) forward address registers.now }
+    ensures { result ≡ run_of (record { convention = M.convention memory.now; memory = M.WordMemory.memory memory.now; code = M.code memory.now; is_covered = M.covers memory.now }) forward address registers.now }
 {
     let mut state = State {
         address,
@@ -68,14 +68,14 @@ fn run<M: RunMemory>(
 
 /// Returns the caller that a run from a state comes to.
 fn run_from<M: RunMemory>(memory: &M, forward: bool, state: &mut State) -> Option<RunCaller>
-    ensures { result ≡ run_from (record { memory = M.WordMemory.memory memory.now; code = M.code memory.now; is_covered = M.covers memory.now }) forward 1024 state.old }
+    ensures { result ≡ run_from (record { convention = M.convention memory.now; memory = M.WordMemory.memory memory.now; code = M.code memory.now; is_covered = M.covers memory.now }) forward 1024 state.old }
 {
     let mut left = MOST_STEPS;
     while left > 0 {
         left -= 1;
         match state.step(memory, forward) {
             Step::Goes => (),
-            Step::Returns => return Some(caller_of(state)),
+            Step::Returns => return Some(caller_of(memory.convention(), state)),
             Step::GivenUp => return None,
         }
     }
@@ -83,25 +83,29 @@ fn run_from<M: RunMemory>(memory: &M, forward: bool, state: &mut State) -> Optio
 }
 
 /// Returns the caller, by the state after the return.
-fn caller_of(state: &State) -> RunCaller
-    ensures { result ≡ caller_of state.now }
+fn caller_of(convention: Convention, state: &State) -> RunCaller
+    ensures { result ≡ caller_of convention state.now }
 {
     let mut registers = state.registers;
-    registers.set(RA, Some(state.address));
+    registers.set(convention.program_counter(), Some(state.address));
     RunCaller {
         return_address: state.address,
-        registers: common(&registers, &registers),
+        registers: common(convention, &registers, &registers),
     }
 }
 
 /// Returns the caller of both runs, or of the only one that returns.
-fn agreed(straight: Option<RunCaller>, forward: Option<RunCaller>) -> Option<RunCaller>
-    ensures { result ≡ agreed straight forward }
+fn agreed(
+    convention: Convention,
+    straight: Option<RunCaller>,
+    forward: Option<RunCaller>,
+) -> Option<RunCaller>
+    ensures { result ≡ agreed convention straight forward }
 {
     match (straight, forward) {
         (Some(straight), Some(forward)) => {
-            if agree(&straight, &forward) {
-                Some(both(&straight, &forward))
+            if agree(convention, &straight, &forward) {
+                Some(both(convention, &straight, &forward))
             } else {
                 None
             }
@@ -112,30 +116,39 @@ fn agreed(straight: Option<RunCaller>, forward: Option<RunCaller>) -> Option<Run
 }
 
 /// Returns whether two callers have the same return address and stack pointer.
-fn agree(caller: &RunCaller, other: &RunCaller) -> bool
-    ensures { result ≡ agree caller.now other.now }
+fn agree(convention: Convention, caller: &RunCaller, other: &RunCaller) -> bool
+    ensures { result ≡ agree convention caller.now other.now }
 {
-    let sp = caller.registers.get(RSP);
-    let other_sp = other.registers.get(RSP);
+    let register = convention.stack_pointer();
+    let sp = caller.registers.get(register);
+    let other_sp = other.registers.get(register);
     caller.return_address == other.return_address && is_same(sp, other_sp)
 }
 
 /// Returns a caller with what both know alike.
-fn both(caller: &RunCaller, other: &RunCaller) -> RunCaller
-    ensures { result ≡ both caller.now other.now }
+fn both(convention: Convention, caller: &RunCaller, other: &RunCaller) -> RunCaller
+    ensures { result ≡ both convention caller.now other.now }
 {
     RunCaller {
         return_address: caller.return_address,
-        registers: common(&caller.registers, &other.registers),
+        registers: common(convention, &caller.registers, &other.registers),
     }
 }
 
-/// Returns what two register files know alike of the general registers and of rip.
-fn common(left: &RegisterFile, right: &RegisterFile) -> RegisterFile
-    ensures { result ≡ common left.now right.now }
+/// Returns what two register files know alike of the general registers, whose columns are below the program counter's, and of
+/// that.
+fn common(convention: Convention, left: &RegisterFile, right: &RegisterFile) -> RegisterFile
+    ensures { result ≡ common convention left.now right.now }
+{
+    alike_below(convention.program_counter().0 + 1, left, right)
+}
+
+/// Returns what two register files know alike of the columns below one.
+fn alike_below(columns: u16, left: &RegisterFile, right: &RegisterFile) -> RegisterFile
+    ensures { result ≡ alike_below columns left.now right.now unknown }
 {
     let mut both = RegisterFile::new();
-    let mut columns = 17u16;
+    let mut columns = columns;
     while columns > 0 {
         columns -= 1;
         let register = Register(columns);

@@ -212,9 +212,9 @@ impl State {
 
 /// Forgets the registers of a set.
 fn forget_registers(words: &mut RegisterFile, registers: Registers)
-    ensures { words.new ≡ forgotten_below registers.0 16 words.old }
+    ensures { words.new ≡ forgotten_below registers.0 32 words.old }
 {
-    let mut left = 16u16;
+    let mut left = 32u16;
     while left > 0 {
         left -= 1;
         forget_if(words, Register(left), is_in(registers, left));
@@ -232,7 +232,7 @@ fn forget_if(words: &mut RegisterFile, register: Register, condition: bool)
 
 /// Returns whether the register of a column is in a set.
 fn is_in(registers: Registers, column: u16) -> bool
-    requires { column < 16 }
+    requires { column < 32 }
     ensures { result ≡ is_in registers.0 column }
 {
     registers.0 >> column & 1 == 1

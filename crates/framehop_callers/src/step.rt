@@ -1,35 +1,46 @@
 //! What a run knows after an instruction.
 ghost use Rattle.std.specs.Prelude.{◌≡◌, ℕ, List, Bool, Some, None, option_map, nat_lt};
 ghost use Rattle.framehop_code.specs.X86_64.Action.{action_at};
+ghost use Rattle.framehop_code.specs.Aarch64.Action.{actions_at};
 ghost use Rattle.framehop_callers.specs.State.{left_by};
-ghost use Rattle.framehop_callers.specs.Step.{Source as RunSource, after, on_at, changed, takes, with_loop, met, branched, jumped, counted, passed_over, with_call_at, entered, is_entered, has_some, called, returned, is_own_return, returned_to, done, checked, stepped, step_of};
+ghost use Rattle.framehop_callers.specs.declared.convention.Convention.{Convention};
+ghost use Rattle.framehop_callers.specs.Step.{Source as RunSource, after, on_at, changed, takes, with_loop, met, branched, jumped, counted, passed_over, with_call_at, entered, linked, is_entered, has_some, called, called_by_link, returned, returned_by, is_own_return, returned_to, done, then_done, all_done, checked, stepped, stepped_by, step_of};
 
+use crate::convention::Convention;
 use crate::memory::WordMemory;
 use crate::state::{State, computed_of};
+use framehop_cfi::aarch64::X30;
 use framehop_cfi::rule::Register;
 use framehop_cfi::x86_64::RSP;
-use framehop_code::action::{Action, Instruction, Registers, Stored, Width};
+use framehop_code::aarch64::action::{Actions, actions_at};
+use framehop_code::action::{Action, Instruction, Stored, Width};
 
 /// The register that LOOP counts down.
 const RCX: Register = Register(2);
 
+/// The size of each instruction of aarch64, in bytes.
+const SIZE_AARCH64: u64 = 4;
+
 /// How much below the stack pointer a function may write that is passed over, in bytes.
 const BELOW: u64 = 0x10000;
 
-/// The registers that a function need not keep: rax, rcx, rdx, rsi, rdi and r8 to r11.
-const SCRATCH: Registers = Registers(0x0f37);
-
 /// What a run reads.
 pub trait RunMemory: WordMemory {
+    ghost convention: { Self → Convention };
+
     ghost code: { Self → ℕ → List ℕ };
 
     ghost covers: { Self → ℕ → Bool };
+
+    /// Returns the calling convention of the processor.
+    fn convention(&self) -> Convention
+        ensures { result ≡ convention self.now };
 
     /// Returns at most 15 bytes of code from an address (AVMA) on, or none where no code is at hand.
     fn code_at(&self, address: u64) -> &[u8]
         ensures { result.now ≡ code self.now address };
 
-    /// Returns the instruction at an address (AVMA), by that code.
+    /// Returns the instruction of x86_64 at an address (AVMA), by that code.
     fn instruction_at(&self, address: u64) -> Option<Instruction>
         ensures { result ≡ action_at (code self.now address) 0 };
 
@@ -54,7 +65,17 @@ impl State {
     /// where it meets them again.
     #[tactic(auto, unfolding(crate::specs::Step::step_of))]
     pub(crate) fn step<M: RunMemory>(&mut self, memory: &M, forward: bool) -> Step
-        ensures { after result self.new ≡ step_of (record { memory = M.WordMemory.memory memory.now; code = M.code memory.now; is_covered = M.covers memory.now }) forward self.old }
+        ensures { after result self.new ≡ step_of (record { convention = M.convention memory.now; memory = M.WordMemory.memory memory.now; code = M.code memory.now; is_covered = M.covers memory.now }) forward self.old }
+    {
+        match memory.convention() {
+            Convention::X86_64 => self.step_x86_64(memory, forward),
+            Convention::Aarch64 => self.step_aarch64(memory, forward),
+        }
+    }
+
+    /// Does the instruction of x86_64 at the state's address.
+    fn step_x86_64<M: RunMemory>(&mut self, memory: &M, forward: bool) -> Step
+        ensures { after result self.new ≡ stepped (record { convention = M.convention memory.now; memory = M.WordMemory.memory memory.now; code = M.code memory.now; is_covered = M.covers memory.now }) forward self.old (action_at (M.code memory.now self.old.address) 0) }
     {
         match memory.instruction_at(self.address) {
             Some(instruction) => self.step_by(memory, forward, instruction),
@@ -62,21 +83,72 @@ impl State {
         }
     }
 
-    /// Does an instruction at the state's address.
+    /// Does the instruction of aarch64 at the state's address.
+    fn step_aarch64<M: RunMemory>(&mut self, memory: &M, forward: bool) -> Step
+        ensures { after result self.new ≡ stepped_by (record { convention = M.convention memory.now; memory = M.WordMemory.memory memory.now; code = M.code memory.now; is_covered = M.covers memory.now }) forward self.old (actions_at (M.code memory.now self.old.address) 0) }
+    {
+        match actions_at(memory.code_at(self.address), 0) {
+            Some(actions) => self.step_by_actions(memory, forward, actions),
+            None => Step::GivenUp,
+        }
+    }
+
+    /// Does an instruction of aarch64 at the state's address.
+    fn step_by_actions<M: RunMemory>(&mut self, memory: &M, forward: bool, actions: Actions) -> Step
+        ensures { after result self.new ≡ stepped_by (record { convention = M.convention memory.now; memory = M.WordMemory.memory memory.now; code = M.code memory.now; is_covered = M.covers memory.now }) forward self.old (Some actions) }
+    {
+        let next = self.address.wrapping_add(SIZE_AARCH64);
+        let step = self.carry_out_all(memory, forward, next, actions);
+        self.checked(memory.convention(), step)
+    }
+
+    /// Does the actions of an instruction, one after another.
+    fn carry_out_all<M: RunMemory>(
+        &mut self,
+        memory: &M,
+        forward: bool,
+        next: u64,
+        actions: Actions,
+    ) -> Step
+        ensures { after result self.new ≡ all_done (record { convention = M.convention memory.now; memory = M.WordMemory.memory memory.now; code = M.code memory.now; is_covered = M.covers memory.now }) forward self.old next actions }
+    {
+        let first = self.carry_out(memory, forward, next, actions.first);
+        let second = self.carry_on(memory, forward, next, actions.second, first);
+        self.carry_on(memory, forward, next, actions.third, second)
+    }
+
+    /// Does another action of an instruction, if the one before it leads on.
+    fn carry_on<M: RunMemory>(
+        &mut self,
+        memory: &M,
+        forward: bool,
+        next: u64,
+        action: Option<Action>,
+        step: Step,
+    ) -> Step
+        ensures { after result self.new ≡ then_done (record { convention = M.convention memory.now; memory = M.WordMemory.memory memory.now; code = M.code memory.now; is_covered = M.covers memory.now }) forward next action (after step self.old) }
+    {
+        match (action, step) {
+            (Some(action), Step::Goes) => self.carry_out(memory, forward, next, action),
+            _ => step,
+        }
+    }
+
+    /// Does an instruction of x86_64 at the state's address.
     fn step_by<M: RunMemory>(&mut self, memory: &M, forward: bool, instruction: Instruction) -> Step
-        ensures { after result self.new ≡ stepped (record { memory = M.WordMemory.memory memory.now; code = M.code memory.now; is_covered = M.covers memory.now }) forward self.old (Some instruction) }
+        ensures { after result self.new ≡ stepped (record { convention = M.convention memory.now; memory = M.WordMemory.memory memory.now; code = M.code memory.now; is_covered = M.covers memory.now }) forward self.old (Some instruction) }
     {
         let next = self.address.wrapping_add(instruction.size as u64);
         let step = self.carry_out(memory, forward, next, instruction.action);
-        self.checked(step)
+        self.checked(memory.convention(), step)
     }
 
     /// Closes the calls whose return address is no longer on the stack, and gives a run up whose stack pointer isn't
     /// known.
-    fn checked(&mut self, step: Step) -> Step
-        ensures { after result self.new ≡ checked (after step self.old) }
+    fn checked(&mut self, convention: Convention, step: Step) -> Step
+        ensures { after result self.new ≡ checked convention (after step self.old) }
     {
-        match self.registers.get(RSP) {
+        match self.registers.get(convention.stack_pointer()) {
             Some(sp) => {
                 self.calls.close_below(sp);
                 step
@@ -93,7 +165,7 @@ impl State {
         next: u64,
         action: Action,
     ) -> Step
-        ensures { after result self.new ≡ done (record { memory = M.WordMemory.memory memory.now; code = M.code memory.now; is_covered = M.covers memory.now }) forward self.old next action }
+        ensures { after result self.new ≡ done (record { convention = M.convention memory.now; memory = M.WordMemory.memory memory.now; code = M.code memory.now; is_covered = M.covers memory.now }) forward self.old next action }
     {
         match action {
             Action::Move { to, from, width } => {
@@ -151,6 +223,14 @@ impl State {
             Action::Return(bytes) => {
                 let address = self.word_at(memory, RSP);
                 self.go_back(bytes, address)
+            }
+            Action::BranchWithLink(from) => {
+                let target = self.value_of(memory, next, Width::Eight, from);
+                self.call_by_link(memory, next, target)
+            }
+            Action::ReturnTo(register) => {
+                let address = self.registers.get(register);
+                self.go_back_by(address)
             }
         }
     }
@@ -245,18 +325,43 @@ impl State {
 
     /// Enters a function that no unwind data covers, or passes over it.
     fn call<M: RunMemory>(&mut self, memory: &M, next: u64, target: Option<u64>) -> Step
-        ensures { after result self.new ≡ called (record { memory = M.WordMemory.memory memory.now; code = M.code memory.now; is_covered = M.covers memory.now }) self.old next target }
+        ensures { after result self.new ≡ called (record { convention = M.convention memory.now; memory = M.WordMemory.memory memory.now; code = M.code memory.now; is_covered = M.covers memory.now }) self.old next target }
     {
         match target {
             Some(target) => {
                 if is_entered(memory, target) {
                     self.enter(next, target)
                 } else {
-                    self.pass_over(next)
+                    self.pass_over(memory.convention(), next)
                 }
             }
-            None => self.pass_over(next),
+            None => self.pass_over(memory.convention(), next),
         }
+    }
+
+    /// Enters a function that no unwind data covers, with its return address in x30, or passes over it.
+    fn call_by_link<M: RunMemory>(&mut self, memory: &M, next: u64, target: Option<u64>) -> Step
+        ensures { after result self.new ≡ called_by_link (record { convention = M.convention memory.now; memory = M.WordMemory.memory memory.now; code = M.code memory.now; is_covered = M.covers memory.now }) self.old next target }
+    {
+        match target {
+            Some(target) => {
+                if is_entered(memory, target) {
+                    self.enter_by_link(next, target)
+                } else {
+                    self.pass_over(memory.convention(), next)
+                }
+            }
+            None => self.pass_over(memory.convention(), next),
+        }
+    }
+
+    /// Enters a function with its return address in x30, if not too many were entered.
+    fn enter_by_link(&mut self, next: u64, target: u64) -> Step
+        ensures { after result self.new ≡ linked self.old next target }
+    {
+        self.registers.set(X30, Some(next));
+        let is_noted = self.after_calls.note(next);
+        self.go_on(is_noted, target)
     }
 
     /// Enters a function, if not too many are open.
@@ -284,14 +389,15 @@ impl State {
         }
     }
 
-    /// Passes over a call, by what the calling convention keeps (System V ABI for AMD64, section 3.2.1).
-    fn pass_over(&mut self, next: u64) -> Step
-        ensures { after result self.new ≡ passed_over self.old next }
+    /// Passes over a call, by what the calling convention keeps (System V ABI for AMD64, section 3.2.1; Procedure Call Standard
+    /// for the Arm 64-bit Architecture, section 6.1.1).
+    fn pass_over(&mut self, convention: Convention, next: u64) -> Step
+        ensures { after result self.new ≡ passed_over convention self.old next }
     {
-        let Some(sp) = self.registers.get(RSP) else {
+        let Some(sp) = self.registers.get(convention.stack_pointer()) else {
             return Step::GivenUp;
         };
-        self.forget(SCRATCH);
+        self.forget(convention.scratch());
         let is_kept = self.store(Some(sp.wrapping_sub(BELOW)), BELOW, None);
         self.go_on(is_kept, next)
     }
@@ -306,6 +412,16 @@ impl State {
         self.raise(8);
         self.raise(bytes);
         self.go_back_to(address)
+    }
+
+    /// Returns to an address (AVMA) that a register had, if it is known.
+    fn go_back_by(&mut self, address: Option<u64>) -> Step
+        ensures { after result self.new ≡ returned_by self.old address }
+    {
+        match address {
+            Some(address) => self.go_back_to(address),
+            None => Step::GivenUp,
+        }
     }
 
     /// Returns to an address (AVMA): to the caller, or from a call that the run has entered.
@@ -331,7 +447,7 @@ impl State {
 
 /// Returns whether a function is entered: its code is at hand, and no unwind data covers it.
 fn is_entered<M: RunMemory>(memory: &M, target: u64) -> bool
-    ensures { result ≡ is_entered (record { memory = M.WordMemory.memory memory.now; code = M.code memory.now; is_covered = M.covers memory.now }) target }
+    ensures { result ≡ is_entered (record { convention = M.convention memory.now; memory = M.WordMemory.memory memory.now; code = M.code memory.now; is_covered = M.covers memory.now }) target }
 {
     !memory.is_covered(target) && has_some(memory.code_at(target))
 }

@@ -2,3 +2,4 @@
 pub mod Encodings
 pub mod Instruction
 pub mod Machine
+pub mod Action

@@ -7,23 +7,23 @@ use Rattle.framehop_callers.proofs.run.run_from.Goals as goal
 
 pub loop-left-preserved : goal.loop-left-preserved
 loop-left-preserved g c =
-    let source : Source = record { memory = g.M.WordMemory.memory c.args.memory.now; code = g.M.RunMemory.code c.args.memory.now; is_covered = g.M.RunMemory.covers c.args.memory.now } in
+    let source : Source = record { convention = g.M.RunMemory.convention c.args.memory.now; memory = g.M.WordMemory.memory c.args.memory.now; code = g.M.RunMemory.code c.args.memory.now; is_covered = g.M.RunMemory.covers c.args.memory.now } in
     after_step source c.args.forward c.loop-left.left c.loop-left.state (goes c.step.new.self) _ c.loop-left-test.true c.in-Goes.ensures c.loop-left.invariant
 
 pub returns-in-Returns : goal.returns-in-Returns
 returns-in-Returns g c =
-    let source : Source = record { memory = g.M.WordMemory.memory c.args.memory.now; code = g.M.RunMemory.code c.args.memory.now; is_covered = g.M.RunMemory.covers c.args.memory.now } in
-    rw c.caller_of.ensures
-    (after_step source c.args.forward c.loop-left.left c.loop-left.state (step.returns c.step.new.self) _ c.loop-left-test.true c.in-Returns.ensures c.loop-left.invariant)
+    let source : Source = record { convention = g.M.RunMemory.convention c.args.memory.now; memory = g.M.WordMemory.memory c.args.memory.now; code = g.M.RunMemory.code c.args.memory.now; is_covered = g.M.RunMemory.covers c.args.memory.now } in
+    rw c.caller_of.ensures (rw c.convention.ensures
+    (after_step source c.args.forward c.loop-left.left c.loop-left.state (step.returns c.step.new.self) _ c.loop-left-test.true c.in-Returns.ensures c.loop-left.invariant))
 
 pub returns-in-GivenUp : goal.returns-in-GivenUp
 returns-in-GivenUp g c =
-    let source : Source = record { memory = g.M.WordMemory.memory c.args.memory.now; code = g.M.RunMemory.code c.args.memory.now; is_covered = g.M.RunMemory.covers c.args.memory.now } in
+    let source : Source = record { convention = g.M.RunMemory.convention c.args.memory.now; memory = g.M.WordMemory.memory c.args.memory.now; code = g.M.RunMemory.code c.args.memory.now; is_covered = g.M.RunMemory.covers c.args.memory.now } in
     after_step source c.args.forward c.loop-left.left c.loop-left.state given_up _ c.loop-left-test.true c.in-GivenUp.ensures c.loop-left.invariant
 
 pub returns : goal.returns
 returns g c =
-    let source : Source = record { memory = g.M.WordMemory.memory c.args.memory.now; code = g.M.RunMemory.code c.args.memory.now; is_covered = g.M.RunMemory.covers c.args.memory.now } in
+    let source : Source = record { convention = g.M.RunMemory.convention c.args.memory.now; memory = g.M.WordMemory.memory c.args.memory.now; code = g.M.RunMemory.code c.args.memory.now; is_covered = g.M.RunMemory.covers c.args.memory.now } in
     let none : c.loop-left.left ≡ 0 = omega arith in
     sym (no_step source c.args.forward c.loop-left.state)
     ∙ subst (λ (k : ℕ). run_from source c.args.forward k c.loop-left.state ≡ run_from source c.args.forward 1024 c.args.state.now) none c.loop-left.invariant

@@ -14,4 +14,4 @@ pub returns : goal.returns
 returns c =
     let none : c.loop-left.left ≡ 0 = omega arith in
     sym (none_forgotten c.args.registers.0 c.loop-left.words)
-    ∙ subst (λ (k : ℕ). forgotten_below c.args.registers.0 k c.loop-left.words ≡ forgotten_below c.args.registers.0 16 c.args.words.now) none c.loop-left.invariant.same
+    ∙ subst (λ (k : ℕ). forgotten_below c.args.registers.0 k c.loop-left.words ≡ forgotten_below c.args.registers.0 32 c.args.words.now) none c.loop-left.invariant.same

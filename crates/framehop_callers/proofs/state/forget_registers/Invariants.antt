@@ -4,8 +4,8 @@ use Rattle.framehop_callers.proofs.state.forget_registers.Given as goal
 
 abbrev pub invariant-loop-left : goal.invariant-loop-left
 invariant-loop-left l = record {
-  within : l.left ≤ 16;
-  same : forgotten_below l.registers.0 l.left l.words ≡ forgotten_below l.registers.0 16 l.initial.words;
+  within : l.left ≤ 32;
+  same : forgotten_below l.registers.0 l.left l.words ≡ forgotten_below l.registers.0 32 l.initial.words;
 }
 
 abbrev pub decreases-loop-left : goal.decreases-loop-left
