@@ -29,7 +29,7 @@ module _ {Regs : Type 0} (machine : Machine Regs) (code : Code) (memory : Memory
 
   -- a row's columns with the registers that the frame has restored
   abbrev restored : List (Option ℕ) → List (Option ℕ)
-  restored columns = restored_columns machine (run_source memory code covers) frame columns
+  restored columns = restored_columns machine (run_source machine.convention memory code covers) frame columns
 
   pub by-row-is : (convention : Convention) (cfa return_address address : ℕ) (columns completed returned : List (Option ℕ)) (next : Next Regs)
       → convention ≡ machine.convention → step_of convention source row ≡ Ok (cfa, return_address)
@@ -45,4 +45,4 @@ module _ {Regs : Type 0} (machine : Machine Regs) (code : Code) (memory : Memory
       ∙ ap (λ words. returned_as machine code frame address (returned_to machine.convention (machine.strip frame.regs) address words))
       (restores ∙ ap restored (columns-are values columns long there))
       ∙ ap (λ a. returned_as machine code frame a (returned_to machine.convention (machine.strip frame.regs) a (restored (columns_by values)))) strips
-      ∙ ap (by_row_step machine code (run_source memory code covers) frame source row) (sym step ∙ ap (λ k. step_of k source row) same)
+      ∙ ap (by_row_step machine code (run_source machine.convention memory code covers) frame source row) (sym step ∙ ap (λ k. step_of k source row) same)

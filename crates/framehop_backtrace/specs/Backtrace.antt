@@ -9,6 +9,7 @@ use Rattle.framehop_cfi.specs.Row.{Row, rule_of}
 use Rattle.framehop_cfi.specs.declared.rule.RegisterRule.{RegisterRule}
 use Rattle.framehop_cfi.specs.declared.rule.RegisterRule.TheVariants as rule
 use Rattle.framehop_callers.specs.Caller.{caller_column, step_of}
+use Rattle.framehop_callers.specs.declared.convention.Convention.{Convention}
 use Rattle.framehop_callers.specs.Convention.{stack_pointer_of, return_address_of}
 use Rattle.framehop_callers.specs.Rules.{Source}
 use Rattle.framehop_callers.specs.declared.caller.RowRefusal.{RowRefusal}
@@ -97,8 +98,9 @@ returned_as machine code frame address columns = arrived code address (record {
 })
 
 -- what a run reads: the memory, the code, and which functions unwind data covers
-abbrev pub run_source : Memory → Code → (ℕ → Bool) → RunSource
-run_source memory code covers = record { memory = memory; code = code_at code; is_covered = covers }
+abbrev pub run_source : Convention → Memory → Code → (ℕ → Bool) → RunSource
+run_source convention memory code covers =
+    record { convention = convention; memory = memory; code = code_at code; is_covered = covers }
 
 -- the columns of a caller by a row: of a frame that is no caller itself with the registers that it has restored
 abbrev pub restored_columns : {Regs : Type 0} → Machine Regs → RunSource → FrameView Regs → List (Option ℕ) → List (Option ℕ)
@@ -118,7 +120,7 @@ by_row_step machine code run frame source row (Err error) = Err (end_of_refusal 
 abbrev pub by_row_of : {Regs : Type 0} → Machine Regs → Code → Memory → (ℕ → Bool) → FrameView Regs → List ℕ → Row
     → Next Regs
 by_row_of machine code memory covers frame section row =
-    by_row_step machine code (run_source memory code covers) frame
+    by_row_step machine code (run_source machine.convention memory code covers) frame
     (record { bytes = section; words = frame.columns; memory = memory }) row
     (step_of machine.convention (record { bytes = section; words = frame.columns; memory = memory }) row)
 
@@ -237,21 +239,25 @@ module _ {Regs : Type 0} (machine : Machine Regs) (code : Code) (frame : FrameVi
       if is_outside_code code frame.location then by_guess start fallback
       else by_library (if by_info then Cfi else FramePointer) outcome
 
--- the frame of a caller that a run has found
-abbrev pub run_to : {Regs : Type 0} → Machine Regs → FrameView Regs → RunCaller → FrameView Regs
-run_to machine frame caller = record {
-  location = at_return_address caller.return_address;
-  columns = caller.registers;
-  regs = machine.merged frame.regs caller.registers;
+-- the frame of a caller that a run has found, with its stripped return address and columns
+abbrev pub run_to : {Regs : Type 0} → Machine Regs → FrameView Regs → ℕ → List (Option ℕ) → FrameView Regs
+run_to machine frame address columns = record {
+  location = at_return_address address;
+  columns = columns;
+  regs = machine.merged frame.regs columns;
   found = Run;
 }
 
 -- the same, if its address is not 0 and may be after a call
+abbrev pub accepted_at : {Regs : Type 0} → Machine Regs → Code → FrameView Regs → ℕ → List (Option ℕ) → Option (FrameView Regs)
+accepted_at machine code frame address columns =
+    if address == 0 then None
+    else (if is_taken (evidence_at machine code (code.start_of (address_of frame.location)) address)
+    then Some (run_to machine frame address (returned_to machine.convention (machine.strip frame.regs) address columns)) else None)
+
 abbrev pub accepted : {Regs : Type 0} → Machine Regs → Code → FrameView Regs → RunCaller → Option (FrameView Regs)
 accepted machine code frame caller =
-    if caller.return_address == 0 then None
-    else (if is_taken (evidence_at machine code (code.start_of (address_of frame.location)) caller.return_address)
-    then Some (run_to machine frame caller) else None)
+    accepted_at machine code frame (machine.strip frame.regs caller.return_address) caller.registers
 
 -- the caller of a frame by running its code
 abbrev pub by_run : {Regs : Type 0} → Machine Regs → Code → FrameView Regs → RunSource → Option (FrameView Regs)
@@ -331,12 +337,12 @@ module _ {Regs : Type 0} (stack : Stack Regs) (callee : Option (FrameView Regs))
   by_finding (by_row section row) =
       row_or (is_stored (rule_of row.rules (record { 0 = return_address_of stack.machine.convention })))
       (by_row_of stack.machine stack.code stack.memory stack.covers
-      (completed stack.machine (run_source stack.memory stack.code stack.covers) callee frame) section row)
-      (by_run stack.machine stack.code frame (run_source stack.memory stack.code stack.covers))
+      (completed stack.machine (run_source stack.machine.convention stack.memory stack.code stack.covers) callee frame) section row)
+      (by_run stack.machine stack.code frame (run_source stack.machine.convention stack.memory stack.code stack.covers))
       (by_row_of stack.machine stack.code stack.memory stack.covers frame section row)
   by_finding uncovered =
       at_entry stack.code (lookup_address frame.location)
-      (caller_or (by_run stack.machine stack.code frame (run_source stack.memory stack.code stack.covers))
+      (caller_or (by_run stack.machine stack.code frame (run_source stack.machine.convention stack.memory stack.code stack.covers))
       (by_start stack.machine stack.code frame (stack.step frame.location frame.regs stack.memory)
       (stack.machine.fallback (is_first_frame frame.location) frame.regs stack.memory)))
   by_finding no_row =

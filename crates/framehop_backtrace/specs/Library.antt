@@ -13,7 +13,7 @@ use Rattle.framehop_backtrace.specs.declared.frame.BacktraceEnd.TheVariants.{Roo
 abbrev pub IsWithoutRun : {Regs : Type 0} → Stack Regs → FrameLocation → Type 0
 IsWithoutRun stack location =
     (columns : List (Option ℕ))
-    → stack.machine.run (run_source stack.memory stack.code stack.covers) (address_of location) columns ≡ None
+    → stack.machine.run (run_source stack.machine.convention stack.memory stack.code stack.covers) (address_of location) columns ≡ None
 
 -- a frame has no row, no run comes to its caller, and no guess is made: it is no first frame outside of code, or one
 -- that call frames of its module do not cover

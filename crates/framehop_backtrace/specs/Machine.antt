@@ -170,7 +170,7 @@ machine_aarch64 = record {
   frame_pointer = X29;
   fallback = outcome_aarch64 UseFramePointerAarch64;
   start = outcome_aarch64 NoOp true;
-  run = λ source address columns. None;
+  run = caller_by_runs;
   restored = λ source address registers columns. columns;
   completed = λ source address registers columns. columns;
 }

@@ -13,7 +13,7 @@ use framehop_bytes::section::SectionBytes;
 use framehop_callers::convention::Convention;
 use framehop_callers::memory::WordMemory;
 use framehop_callers::register_file::RegisterFile;
-use framehop_callers::run::RunCaller;
+use framehop_callers::run::{RunCaller, caller_by_runs};
 use framehop_callers::step::RunMemory;
 use framehop_cfi::aarch64;
 use framehop_cfi::context::UnwindContext;
@@ -105,11 +105,11 @@ impl<D: SectionBytes + Drop, P: AllocationPolicy> BacktraceUnwinder for Unwinder
     }
 
     fn caller_by_runs<M: RunMemory>(
-        _memory: &M,
-        _address: u64,
-        _columns: &RegisterFile,
+        memory: &M,
+        address: u64,
+        columns: &RegisterFile,
     ) -> Option<RunCaller> {
-        None
+        caller_by_runs(memory, address, columns)
     }
 
     fn with_restored<M: RunMemory>(

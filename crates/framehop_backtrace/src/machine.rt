@@ -89,14 +89,13 @@ pub trait BacktraceUnwinder: Unwinder {
     ) -> Result<Option<u64>, Error>
         ensures { HasDone (machine.start regs.old (M.memory memory.now)) result regs.old regs.new };
 
-    /// Returns the caller of a frame by running its code from an address (AVMA) on, over its registers. Only x86_64 has
-    /// one.
+    /// Returns the caller of a frame by running its code from an address (AVMA) on, over its registers.
     fn caller_by_runs<M: RunMemory>(
         memory: &M,
         address: u64,
         columns: &RegisterFile,
     ) -> Option<RunCaller>
-        ensures { result ≡ machine.run (record { memory = M.WordMemory.memory memory.now; code = M.code memory.now; is_covered = M.covers memory.now })
+        ensures { result ≡ machine.run (record { convention = M.convention memory.now; memory = M.WordMemory.memory memory.now; code = M.code memory.now; is_covered = M.covers memory.now })
             address columns.now };
 
     /// Returns the caller's registers by a row, with those that the row leaves unknown although a function restores them, by
@@ -107,7 +106,7 @@ pub trait BacktraceUnwinder: Unwinder {
         registers: &RegisterFile,
         caller: &RegisterFile,
     ) -> RegisterFile
-        ensures { result ≡ machine.restored (record { memory = M.WordMemory.memory memory.now; code = M.code memory.now; is_covered = M.covers memory.now })
+        ensures { result ≡ machine.restored (record { convention = M.convention memory.now; memory = M.WordMemory.memory memory.now; code = M.code memory.now; is_covered = M.covers memory.now })
             address registers.now caller.now };
 
     /// Returns the caller's registers, with all that is known of them where the frame's code, run from an address (AVMA) on
@@ -118,7 +117,7 @@ pub trait BacktraceUnwinder: Unwinder {
         registers: &RegisterFile,
         caller: &RegisterFile,
     ) -> RegisterFile
-        ensures { result ≡ machine.completed (record { memory = M.WordMemory.memory memory.now; code = M.code memory.now; is_covered = M.covers memory.now })
+        ensures { result ≡ machine.completed (record { convention = M.convention memory.now; memory = M.WordMemory.memory memory.now; code = M.code memory.now; is_covered = M.covers memory.now })
             address registers.now caller.now };
 
     /// Returns whether PE or compact unwind info unwinds a frame.

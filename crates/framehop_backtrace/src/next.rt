@@ -226,10 +226,10 @@ fn by_row_or_run<U: BacktraceUnwinder, M: CodeMemory, S: UnwindContextStorage>(
     ensures moved { moved_to result frame.new ≡ row_or
         (is_stored (rule_of row.now.rules (record { 0 = return_address_of U.machine.convention })))
         (by_row_of U.machine (M.code memory.now) (M.memory memory.now) (is_covered (U.unwinder_view unwinder.now).modules)
-        (completed U.machine (run_source (M.memory memory.now) (M.code memory.now) (is_covered (U.unwinder_view unwinder.now).modules))
+        (completed U.machine (run_source U.machine.convention (M.memory memory.now) (M.code memory.now) (is_covered (U.unwinder_view unwinder.now).modules))
         (option_map frame_view callee) (frame_view frame.old)) section.now row.now)
         (by_run U.machine (M.code memory.now) (frame_view frame.old)
-        (run_source (M.memory memory.now) (M.code memory.now) (is_covered (U.unwinder_view unwinder.now).modules)))
+        (run_source U.machine.convention (M.memory memory.now) (M.code memory.now) (is_covered (U.unwinder_view unwinder.now).modules)))
         (by_row_of U.machine (M.code memory.now) (M.memory memory.now) (is_covered (U.unwinder_view unwinder.now).modules)
         (frame_view frame.old) section.now row.now) }
     ensures ended { OnErr result (frame.new ≡ frame.old) }
@@ -255,10 +255,10 @@ fn by_row_again<U: BacktraceUnwinder, M: CodeMemory, S: UnwindContextStorage>(
     ensures moved { moved_to result frame.new ≡ row_or
         (is_stored (rule_of row.now.rules (record { 0 = return_address_of U.machine.convention })))
         (by_row_of U.machine (M.code memory.now) (M.memory memory.now) (is_covered (U.unwinder_view unwinder.now).modules)
-        (completed U.machine (run_source (M.memory memory.now) (M.code memory.now) (is_covered (U.unwinder_view unwinder.now).modules))
+        (completed U.machine (run_source U.machine.convention (M.memory memory.now) (M.code memory.now) (is_covered (U.unwinder_view unwinder.now).modules))
         (option_map frame_view callee) (frame_view frame.old)) section.now row.now)
         (by_run U.machine (M.code memory.now) (frame_view frame.old)
-        (run_source (M.memory memory.now) (M.code memory.now) (is_covered (U.unwinder_view unwinder.now).modules)))
+        (run_source U.machine.convention (M.memory memory.now) (M.code memory.now) (is_covered (U.unwinder_view unwinder.now).modules)))
         (Err end) }
     ensures ended { OnErr result (frame.new ≡ frame.old) }
 {
@@ -283,7 +283,7 @@ fn completed<U: BacktraceUnwinder, M: CodeMemory>(
     callee: Option<Frame<U::UnwindRegs>>,
     frame: &Frame<U::UnwindRegs>,
 ) -> Frame<U::UnwindRegs>
-    ensures { frame_view result ≡ completed U.machine (run_source (M.memory memory.now) (M.code memory.now) (is_covered (U.unwinder_view unwinder.now).modules))
+    ensures { frame_view result ≡ completed U.machine (run_source U.machine.convention (M.memory memory.now) (M.code memory.now) (is_covered (U.unwinder_view unwinder.now).modules))
         (option_map frame_view callee) (frame_view frame.now) }
 {
     match callee {
@@ -306,7 +306,7 @@ fn by_run_or_end<U: BacktraceUnwinder, M: CodeMemory>(
 ) -> Result<(), BacktraceEnd>
     ensures moved { moved_to result frame.new ≡ caller_or
         (by_run U.machine (M.code memory.now) (frame_view frame.old)
-        (run_source (M.memory memory.now) (M.code memory.now) (is_covered (U.unwinder_view unwinder.now).modules)))
+        (run_source U.machine.convention (M.memory memory.now) (M.code memory.now) (is_covered (U.unwinder_view unwinder.now).modules)))
         (Err end) }
     ensures ended { OnErr result (frame.new ≡ frame.old) }
 {
@@ -353,7 +353,7 @@ fn restored_columns<U: BacktraceUnwinder, M: CodeMemory>(
     columns: &RegisterFile,
 ) -> RegisterFile
     ensures { result ≡ restored_columns U.machine
-        (run_source (M.memory memory.now) (M.code memory.now) (is_covered (U.unwinder_view unwinder.now).modules))
+        (run_source U.machine.convention (M.memory memory.now) (M.code memory.now) (is_covered (U.unwinder_view unwinder.now).modules))
         (frame_view frame.now) columns.now }
 {
     if frame.address.is_return_address() {
@@ -388,7 +388,11 @@ fn returned_as<U: BacktraceUnwinder, M: CodeMemory>(
 
 /// Makes a stripped return address (AVMA) the program counter of a caller's columns, and strips the return address' own
 /// column.
-fn return_to<U: BacktraceUnwinder>(regs: &U::UnwindRegs, address: u64, columns: &mut RegisterFile)
+pub(crate) fn return_to<U: BacktraceUnwinder>(
+    regs: &U::UnwindRegs,
+    address: u64,
+    columns: &mut RegisterFile,
+)
     ensures { columns.new ≡ returned_to U.machine.convention (U.machine.strip regs.now) address columns.old }
 {
     let convention = U::convention();
@@ -413,7 +417,7 @@ fn by_run_or_start<U: BacktraceUnwinder, M: CodeMemory>(
     ensures refused { IfErr result (λ _. U.may_run_out unwinder.now cache.old (location_of frame.old.address)) }
     ensures exact { U.is_sound (U.unwinder_view unwinder.now) cache.old → IfOk result (λ moved. moved_to moved frame.new
         ≡ caller_or (by_run U.machine (M.code memory.now) (frame_view frame.old)
-        (run_source (M.memory memory.now) (M.code memory.now) (is_covered (U.unwinder_view unwinder.now).modules)))
+        (run_source U.machine.convention (M.memory memory.now) (M.code memory.now) (is_covered (U.unwinder_view unwinder.now).modules)))
         (by_start U.machine (M.code memory.now) (frame_view frame.old)
         (U.step unwinder.now (location_of frame.old.address) frame.old.regs (M.memory memory.now))
         (U.machine.fallback (is_first_frame (location_of frame.old.address)) frame.old.regs (M.memory memory.now)))) }

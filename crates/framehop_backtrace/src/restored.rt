@@ -25,7 +25,7 @@ pub(crate) fn with_restored<M: RunMemory>(
     registers: &RegisterFile,
     caller: &RegisterFile,
 ) -> RegisterFile
-    ensures { result ≡ with_restored (record { memory = M.WordMemory.memory memory.now; code = M.code memory.now; is_covered = M.covers memory.now })
+    ensures { result ≡ with_restored (record { convention = M.convention memory.now; memory = M.WordMemory.memory memory.now; code = M.code memory.now; is_covered = M.covers memory.now })
         address registers.now caller.now }
 {
     if knows_kept(caller) {
@@ -120,7 +120,7 @@ pub(crate) fn with_completed<M: RunMemory>(
     registers: &RegisterFile,
     caller: &RegisterFile,
 ) -> RegisterFile
-    ensures { result ≡ with_completed (record { memory = M.WordMemory.memory memory.now; code = M.code memory.now; is_covered = M.covers memory.now })
+    ensures { result ≡ with_completed (record { convention = M.convention memory.now; memory = M.WordMemory.memory memory.now; code = M.code memory.now; is_covered = M.covers memory.now })
         address registers.now caller.now }
 {
     completed_in(caller, caller_by_runs(memory, address, registers))

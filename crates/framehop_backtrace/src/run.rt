@@ -2,19 +2,22 @@
 ghost use Rattle.std.specs.Prelude.{◌≡◌, option_map};
 ghost use Rattle.framehop_backtrace.specs.Code.{longest, code_at};
 ghost use Rattle.framehop_backtrace.specs.Covers.{is_covered};
-ghost use Rattle.framehop_backtrace.specs.Backtrace.{frame_view, run_source, by_run, accepted};
+ghost use Rattle.framehop_backtrace.specs.Backtrace.{frame_view, run_source, by_run, accepted, accepted_at};
 
 use crate::frame::{FoundBy, Frame};
 use crate::guess::{Evidence, evidence_at};
 use crate::machine::BacktraceUnwinder;
 use crate::memory::CodeMemory;
+use crate::next::return_to;
+use framehop_callers::convention::Convention;
 use framehop_callers::memory::WordMemory;
+use framehop_callers::register_file::RegisterFile;
 use framehop_callers::run::RunCaller;
 use framehop_callers::step::RunMemory;
 use framehop_code::action::Instruction;
 use framehop_core::FrameAddress;
 
-/// How many bytes an instruction of x86_64 has at most.
+/// How many bytes an instruction has at most.
 const MOST_BYTES: u64 = 15;
 
 /// What a run reads of a process: its memory and code, and which functions unwind data covers.
@@ -36,9 +39,15 @@ impl<U: BacktraceUnwinder, M: CodeMemory> RunMemory for ProcessCode<'_, U, M> {
     ghost use Rattle.framehop_backtrace.specs.Code.{code_at};
     ghost use Rattle.framehop_backtrace.specs.Covers.{is_covered};
 
+    ghost convention = { λ process. U.machine.convention };
+
     ghost code = { λ process. code_at (M.code process.memory.now) };
 
     ghost covers = { λ process. is_covered (U.unwinder_view process.unwinder.now).modules };
+
+    fn convention(&self) -> Convention {
+        U::convention()
+    }
 
     fn code_at(&self, address: u64) -> &[u8] {
         code_at(self.memory, address)
@@ -84,7 +93,7 @@ pub(crate) fn by_run<U: BacktraceUnwinder, M: CodeMemory>(
     frame: &Frame<U::UnwindRegs>,
 ) -> Option<Frame<U::UnwindRegs>>
     ensures { option_map frame_view result ≡ by_run U.machine (M.code memory.now) (frame_view frame.now)
-        (run_source (M.memory memory.now) (M.code memory.now) (is_covered (U.unwinder_view unwinder.now).modules)) }
+        (run_source U.machine.convention (M.memory memory.now) (M.code memory.now) (is_covered (U.unwinder_view unwinder.now).modules)) }
 {
     let process = ProcessCode { unwinder, memory };
     let caller = U::caller_by_runs(&process, frame.address.address(), &frame.columns)?;
@@ -99,16 +108,31 @@ fn accepted<U: BacktraceUnwinder, M: CodeMemory>(
 ) -> Option<Frame<U::UnwindRegs>>
     ensures { option_map frame_view result ≡ accepted U.machine (M.code memory.now) (frame_view frame.now) caller }
 {
-    let address = FrameAddress::from_return_address(caller.return_address)?;
+    let address = U::strip(&frame.regs, caller.return_address);
+    accepted_at::<U, M>(memory, frame, address, caller.registers)
+}
+
+/// Returns the frame of a caller by its stripped return address (AVMA) and its columns, if that may be after a call.
+fn accepted_at<U: BacktraceUnwinder, M: CodeMemory>(
+    memory: &M,
+    frame: &Frame<U::UnwindRegs>,
+    address: u64,
+    columns: RegisterFile,
+) -> Option<Frame<U::UnwindRegs>>
+    ensures { option_map frame_view result ≡ accepted_at U.machine (M.code memory.now) (frame_view frame.now) address columns }
+{
+    let location = FrameAddress::from_return_address(address)?;
     let start = memory.function_start(frame.address.address());
-    let evidence = evidence_at::<U, M>(memory, start, caller.return_address);
+    let evidence = evidence_at::<U, M>(memory, start, address);
     if !evidence.is_better(Evidence::NoCall) {
         return None;
     }
+    let mut columns = columns;
+    return_to::<U>(&frame.regs, address, &mut columns);
     Some(Frame {
-        address,
-        regs: U::merged(frame.regs, &caller.registers),
-        columns: caller.registers,
+        address: location,
+        regs: U::merged(frame.regs, &columns),
+        columns,
         found: FoundBy::Run,
     })
 }
