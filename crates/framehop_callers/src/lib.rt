@@ -29,9 +29,12 @@
 //!   return, they must agree in return address and stack pointer. Where only one returns, a register that a loop changes
 //!   may be wrong.
 //! - A call of a function that unwind data covers is passed over, as one to an address that isn't known: it keeps the
-//!   registers that the calling convention says (System V ABI for AMD64, section 3.2.1). Other functions are often
-//!   helpers of one file with a convention of their own, and are entered. One may move its return address on the stack: a
-//!   return to an instruction after a call that was entered, and from which there was no return, is not the function's own.
+//!   registers that the calling convention says (System V ABI for AMD64, section 3.2.1; Procedure Call Standard for the Arm
+//!   64-bit Architecture, section 6.1.1). Other functions are often helpers of one file with a convention of their own, and
+//!   are entered. One may move its return address on the stack, or on aarch64 in a register: a return to an instruction
+//!   after a call that was entered, and from which there was no return, is not the function's own.
+//! - Of aarch64 pointer authentication codes aren't followed: a signed return address is the same for a run, and its caller's
+//!   is stripped by who asks.
 //! - A write to an address that isn't known goes to no word that the run needs: without this each
 //!   `mov [rdi], rax` could overwrite the return address.
 //! - A run is given up after 1,024 instructions, 128 writes, and 8 calls that are open or places of calls that were entered.

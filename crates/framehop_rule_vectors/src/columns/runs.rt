@@ -1,13 +1,15 @@
-//! Callers by running code of x86_64 that is made by hand.
+//! Callers by running code that is made by hand.
 ghost use Rattle.std.specs.Prelude.{ℕ, Option, ◌≡◌, nat_lt, if◌then◌else◌, [], drop, length};
 
 use crate::columns::frames::{bytes_of, memory_of};
+use framehop_callers::convention::Convention;
 use framehop_callers::memory::WordMemory;
 use framehop_callers::register_file::RegisterFile;
 use framehop_callers::run::{RunCaller, caller_by_runs};
 use framehop_callers::step::RunMemory;
+use framehop_cfi::aarch64::{SP, X19, X29, X30};
 use framehop_cfi::rule::Register;
-use framehop_cfi::x86_64::{R15, RA, RBP, RBX, RSP};
+use framehop_cfi::x86_64::{R15, RBP, RBX, RSP};
 use framehop_code::action::Instruction;
 use framehop_code::x86_64::action::action_at;
 use std::alloc::{AllocError, Global};
@@ -30,6 +32,7 @@ const WORDS: [u64; 12] = [
 /// A process with code.
 #[derive(Clone, Copy, Drop)]
 struct Process<'a, M> {
+    convention: Convention,
     memory: &'a M,
     code: &'a [u8],
     /// The function that unwind data covers (AVMA).
@@ -47,10 +50,16 @@ impl<M: WordMemory> WordMemory for Process<'_, M> {
 impl<M: WordMemory> RunMemory for Process<'_, M> {
     ghost use Rattle.std.specs.Prelude.{◌-◌, ◌==◌, nat_lt, if◌then◌else◌, [], drop, length};
 
+    ghost convention = { λ process. process.convention };
+
     ghost code = { λ process address. if nat_lt address 0x1000 then []
         else (if nat_lt (length process.code.now) (address - 0x1000) then [] else drop (address - 0x1000) process.code.now) };
 
     ghost covers = { λ process address. address == process.covered };
+
+    fn convention(&self) -> Convention {
+        self.convention
+    }
 
     fn instruction_at(&self, address: u64) -> Option<Instruction> {
         action_at(self.code_at(address), 0)
@@ -175,6 +184,115 @@ const RUNS: [Run; 15] = [
     ),
 ];
 
+/// Code, the registers that are known and another one, the function that unwind data covers, and what a run from its start finds:
+/// the return address, sp and that register.
+type RunOfAarch64 = (
+    &'static [u8],
+    &'static [(Register, u64)],
+    Register,
+    u64,
+    Option<(u64, Option<u64>, Option<u64>)>,
+);
+
+/// stp x29, x30, [sp, #-32]!; str x19, [sp, #16]; mov x19, x0; cbz x0, .+8; add x19, x19, #1; ldr x19, [sp, #16]; ldp x29, x30, [sp], #32; ret
+const SAVED: &'static [u8] = &[
+    0xfd, 0x7b, 0xbe, 0xa9, 0xf3, 0x0b, 0x00, 0xf9, 0xf3, 0x03, 0x00, 0xaa, 0x40, 0x00, 0x00, 0xb4,
+    0x73, 0x06, 0x00, 0x91, 0xf3, 0x0b, 0x40, 0xf9, 0xfd, 0x7b, 0xc2, 0xa8, 0xc0, 0x03, 0x5f, 0xd6,
+];
+
+/// mov x9, x30; bl .+12; mov x30, x9; ret; stp d8, d9, [sp, #-16]!; ldp d8, d9, [sp], #16; ret
+const LINKED: &'static [u8] = &[
+    0xe9, 0x03, 0x1e, 0xaa, 0x03, 0x00, 0x00, 0x94, 0xfe, 0x03, 0x09, 0xaa, 0xc0, 0x03, 0x5f, 0xd6,
+    0xe8, 0x27, 0xbf, 0x6d, 0xe8, 0x27, 0xc1, 0x6c, 0xc0, 0x03, 0x5f, 0xd6,
+];
+
+/// str x30, [sp, #-16]!; bl .+12; ldr x30, [sp], #16; ret; udf #0
+const COVERED: &'static [u8] = &[
+    0xfe, 0x0f, 0x1f, 0xf8, 0x03, 0x00, 0x00, 0x94, 0xfe, 0x07, 0x41, 0xf8, 0xc0, 0x03, 0x5f, 0xd6,
+    0x00, 0x00, 0x00, 0x00,
+];
+
+/// paciasp; stp x29, x30, [sp, #-16]!; sub sp, sp, #32; str wzr, [sp, #8]; add sp, sp, #32; ldp x29, x30, [sp], #16; retaa
+const SIGNED: &'static [u8] = &[
+    0x3f, 0x23, 0x03, 0xd5, 0xfd, 0x7b, 0xbf, 0xa9, 0xff, 0x83, 0x00, 0xd1, 0xff, 0x0b, 0x00, 0xb9,
+    0xff, 0x83, 0x00, 0x91, 0xfd, 0x7b, 0xc1, 0xa8, 0xff, 0x0b, 0x5f, 0xd6,
+];
+
+const KNOWN: &'static [(Register, u64)] = &[(SP, 0x7020), (X30, 0x3005), (X19, 77)];
+
+const RUNS_OF_AARCH64: [RunOfAarch64; 13] = [
+    (SAVED, KNOWN, X19, 0, Some((0x3005, Some(0x7020), Some(77)))),
+    // without a stack pointer there is no run
+    (SAVED, &[(X30, 0x3005)], X19, 0, None),
+    // ldp x29, x30, [sp], #32; ret
+    (
+        &[0xfd, 0x7b, 0xc2, 0xa8, 0xc0, 0x03, 0x5f, 0xd6],
+        KNOWN,
+        X29,
+        0,
+        Some((0x2005, Some(0x7040), Some(0x7060))),
+    ),
+    (
+        LINKED,
+        KNOWN,
+        X19,
+        0,
+        Some((0x3005, Some(0x7020), Some(77))),
+    ),
+    // passed over, the helper need not keep x9
+    (LINKED, KNOWN, X19, 0x1010, None),
+    (
+        COVERED,
+        KNOWN,
+        X19,
+        0x1010,
+        Some((0x3005, Some(0x7020), Some(77))),
+    ),
+    (
+        COVERED,
+        &[(SP, 0x7020), (X30, 0x3005), (Register(9), 77)],
+        Register(9),
+        0x1010,
+        Some((0x3005, Some(0x7020), None)),
+    ),
+    (COVERED, KNOWN, X19, 0, None),
+    (
+        SIGNED,
+        KNOWN,
+        X30,
+        0,
+        Some((0x3005, Some(0x7020), Some(0x3005))),
+    ),
+    // runs that differ: cbz x0, .+8; add sp, sp, #16; ret
+    (
+        &[
+            0x40, 0x00, 0x00, 0xb4, 0xff, 0x43, 0x00, 0x91, 0xc0, 0x03, 0x5f, 0xd6,
+        ],
+        KNOWN,
+        X19,
+        0,
+        None,
+    ),
+    // br x16
+    (&[0x00, 0x02, 0x1f, 0xd6], KNOWN, X19, 0, None),
+    // blr x16; ret
+    (
+        &[0x00, 0x02, 0x3f, 0xd6, 0xc0, 0x03, 0x5f, 0xd6],
+        KNOWN,
+        X19,
+        0,
+        None,
+    ),
+    // ret x19
+    (
+        &[0x60, 0x02, 0x5f, 0xd6],
+        KNOWN,
+        X30,
+        0,
+        Some((77, Some(0x7020), Some(0x3005))),
+    ),
+];
+
 /// leave; pop rcx; lea rsp, [r15 + 8]; push rcx; ret
 const MOVED: &'static [u8] = &[0xc9, 0x59, 0x49, 0x8d, 0x67, 0x08, 0x51, 0xc3];
 
@@ -182,6 +300,7 @@ const MOVED: &'static [u8] = &[0xc9, 0x59, 0x49, 0x8d, 0x67, 0x08, 0x51, 0xc3];
 /// address.
 fn caller_of(
     alloc: Global,
+    convention: Convention,
     code: &[u8],
     covered: u64,
     known: &[(Register, u64)],
@@ -189,6 +308,7 @@ fn caller_of(
     let bytes = bytes_of(alloc, &WORDS)?;
     let memory = memory_of(alloc, MEMORY, &bytes)?;
     let process = Process {
+        convention,
         memory: &memory,
         code,
         covered,
@@ -200,22 +320,42 @@ fn caller_of(
     Ok(caller_by_runs(&process, CODE, &registers))
 }
 
-/// Returns the return address, rsp and another register of a caller. The address is rip, too.
-fn found(caller: Option<RunCaller>, register: Register) -> Option<(u64, Option<u64>, Option<u64>)> {
+/// Returns the return address, the stack pointer and another register of a caller. The address is the program counter, too.
+fn found(
+    convention: Convention,
+    caller: Option<RunCaller>,
+    register: Register,
+) -> Option<(u64, Option<u64>, Option<u64>)> {
     let caller = caller?;
-    let return_address = caller.registers.get(RA)?;
+    let return_address = caller.registers.get(convention.program_counter())?;
     if return_address != caller.return_address {
         return None;
     }
-    let sp = caller.registers.get(RSP);
+    let sp = caller.registers.get(convention.stack_pointer());
     Some((return_address, sp, caller.registers.get(register)))
 }
 
 #[test]
 fn runs_to_the_return(rt: HostRuntime) -> Result<(), Fail> {
     for (code, sp, other, covered, wanted) in RUNS {
-        let caller = caller_of(rt.alloc(), code, covered, &[(RSP, sp), other])?;
-        assert!(rt; found(caller, other.0) == wanted, "{sp:x} {covered:x}");
+        let x86_64 = Convention::X86_64;
+        let caller = caller_of(rt.alloc(), x86_64, code, covered, &[(RSP, sp), other])?;
+        assert!(rt;
+            found(x86_64, caller, other.0) == wanted,
+            "{sp:x} {covered:x}"
+        );
+    }
+    Ok(())
+}
+
+#[test]
+fn runs_to_the_return_of_aarch64(rt: HostRuntime) -> Result<(), Fail> {
+    for (code, known, other, covered, wanted) in RUNS_OF_AARCH64 {
+        let caller = caller_of(rt.alloc(), Convention::Aarch64, code, covered, known)?;
+        assert!(rt;
+            found(Convention::Aarch64, caller, other) == wanted,
+            "{covered:x}"
+        );
     }
     Ok(())
 }
@@ -223,7 +363,9 @@ fn runs_to_the_return(rt: HostRuntime) -> Result<(), Fail> {
 #[test]
 fn finds_return_addresses_that_the_code_moves(rt: HostRuntime) -> Result<(), Fail> {
     let known = [(RSP, 0x7000), (RBP, 0x7020), (R15, 0x7048)];
-    let caller = caller_of(rt.alloc(), MOVED, 0, &known)?;
-    assert!(rt; found(caller, RBP) == Some((0x2005, Some(0x7050), Some(0x7060))));
+    let caller = caller_of(rt.alloc(), Convention::X86_64, MOVED, 0, &known)?;
+    assert!(rt;
+        found(Convention::X86_64, caller, RBP) == Some((0x2005, Some(0x7050), Some(0x7060)))
+    );
     Ok(())
 }
