@@ -2,4 +2,7 @@
 pub mod Encodings
 pub mod Instruction
 pub mod Machine
+pub mod Forms
+pub mod Fields
+pub mod Access
 pub mod Action

@@ -3,8 +3,11 @@ ghost use Rattle.std.specs.Prelude.{◌≡◌, ◌+◌, ◌<◌, ◌≤◌, pos,
 ghost use Rattle.framehop_code.specs.Aarch64.Instruction.{instruction_at, base_numbered, base_name};
 ghost use Rattle.framehop_cfi.specs.Aarch64 as columns;
 
+pub mod access;
 pub mod action;
 pub mod encoding;
+pub mod field;
+pub mod form;
 pub mod instruction;
 
 use crate::effect::{Base, Code, Effect};

@@ -74,7 +74,7 @@ fn leading(flow: Flow) -> Effect
 
 /// Returns how far a jump leads from the next instruction, in bytes, by its distance in words from this one and the value
 /// of that field's highest bit.
-fn distance(words: u32, highest: u32) -> i64
+pub(crate) fn distance(words: u32, highest: u32) -> i64
     ensures { result ≡ distance words highest }
 {
     signed(words, highest) * 4 - 4
@@ -162,7 +162,7 @@ fn written_back(word: u32, class: Class) -> Effect
 }
 
 /// Returns imm9, in bytes.
-fn imm9(word: u32) -> i64
+pub(crate) fn imm9(word: u32) -> i64
     ensures exact { result ≡ imm9 word }
     ensures least { negsuc 8589934591 ≤ℤ result }
     ensures most { result ≤ℤ pos 8589934592 }
@@ -207,7 +207,7 @@ fn pair_offset(word: u32, class: Class) -> i64
 }
 
 /// Returns a number with the sign that its highest bit is, by that bit's value.
-fn signed(number: u32, highest: u32) -> i64
+pub(crate) fn signed(number: u32, highest: u32) -> i64
     ensures exact { result ≡ signed number highest }
     ensures least { negsuc 8589934591 ≤ℤ result }
     ensures most { result ≤ℤ pos 8589934592 }
@@ -261,7 +261,7 @@ fn numbered(number: u32) -> Option<Base>
 }
 
 /// Returns so many bits of a word, from a lowest one on.
-fn bits(word: u32, low: u32, count: u32) -> u32
+pub(crate) fn bits(word: u32, low: u32, count: u32) -> u32
     requires low { low < 32 }
     requires count { count < 32 }
     ensures { result ≡ bits_at word low count }
