@@ -12,7 +12,7 @@
 //! - A guess is only made at a first frame, since the rule of a function's start follows the frame
 //!   pointer at others. Its return address and that of the frame pointer are compared by the calls
 //!   before them. Code that nobody has, as of a JIT compiler, may have a call.
-//! - What a row leaves unknown of the registers that a function restores, since their words can't be
+//! - What a row of x86_64 leaves unknown of the registers that a function restores, since their words can't be
 //!   read, is taken from a run of the code to its return, where that comes to the row's caller: after
 //!   a `pop` a row has the register in the word below the stack pointer still.
 //! - A row that needs another register, as rax in assembly, is tried once more over all that a run of
