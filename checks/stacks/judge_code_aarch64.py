@@ -73,7 +73,8 @@ class Machine:
         # qemu tells single registers only to who has asked which there are
         self.ask("qXfer:features:read:target.xml:0,800")
         entry = self.auxiliary(AT_ENTRY)
-        self.go_to([entry])
+        if self.register(PC) != entry:
+            self.go_to([entry])
         self.memory = os.open(f"/proc/{self.process.pid}/mem", os.O_RDONLY)
         assert os.pread(self.memory, 4, entry) == bytes.fromhex(self.ask(f"m{entry:x},4").decode()), "the program's addresses are not those of qemu"
         self.maps = []
@@ -415,4 +416,5 @@ def main():
         sys.exit(judge(arguments.stacks, file, stops))
 
 
-main()
+if __name__ == "__main__":
+    main()
