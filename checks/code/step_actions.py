@@ -29,7 +29,7 @@ CONTRACT = re.compile(r"^\s*(ghost use|requires|ensures|#!?\[tactic)\b.*\n", re.
 # what framehop_code uses of the crates below it
 BELOW = {
     "framehop_bytes.rs": "pub mod bytes { pub fn front(bytes: &[u8], size: usize) -> &[u8] { &bytes[..size] } }",
-    "framehop_cfi.rs": "pub mod rule; pub mod x86_64; pub mod read_error { #[derive(Clone, Copy, Debug)] pub enum ReadError { Eof, UnknownInstruction } }"
+    "framehop_cfi.rs": "pub mod rule; pub mod x86_64; pub mod aarch64; pub mod read_error { #[derive(Clone, Copy, Debug)] pub enum ReadError { Eof, UnknownInstruction } }"
     "pub mod numbers { use super::read_error::ReadError;"
     + "".join(
         f"pub fn read_u{8 * n}(bytes: &[u8], at: usize) -> Result<(u{8 * n}, usize), ReadError>"
@@ -54,20 +54,27 @@ def write(folder, name, text):
         file.write(text)
 
 
-def build(folder):
+def build_crates(folder, architecture, names):
+    """Writes what is stepped of framehop_code, and what it uses of the crates below it."""
     for name, text in BELOW.items():
         write(folder, name, text)
-    for name in ("rule", "x86_64"):
+    for name in ("rule", "x86_64", "aarch64"):
         write(folder, f"framehop_cfi/{name}.rs", source_of("framehop_cfi", name))
     effect = source_of("framehop_code", "effect")
     begin, end = effect.index("/// The instructions of an architecture."), effect.index("/// Returns the effect of an instruction of")
     write(folder, "framehop_code/effect.rs", effect[:begin] + effect[end:])
     write(folder, "framehop_code/action.rs", source_of("framehop_code", "action"))
-    for name in FILES:
-        write(folder, f"framehop_code/x86_64/{name}.rs", source_of("framehop_code", "x86_64/" + name))
-    write(folder, "framehop_code.rs", "pub mod action; pub mod effect; pub mod x86_64 {" + "".join(f"pub mod {name};" for name in FILES) + "}")
-    with open(os.path.join(HERE, "step_actions.rs"), encoding="utf-8") as file:
-        write(folder, "main.rs", file.read())
+    for name in names:
+        write(folder, f"framehop_code/{architecture}/{name}.rs", source_of("framehop_code", f"{architecture}/{name}"))
+    modules = "".join(f"pub mod {name};" for name in names)
+    write(folder, "framehop_code.rs", f"pub mod action; pub mod effect; pub mod {architecture} {{{modules}}}")
+
+
+def build(folder):
+    build_crates(folder, "x86_64", FILES)
+    for name in ("step_actions.rs", "steps.rs"):
+        with open(os.path.join(HERE, name), encoding="utf-8") as file:
+            write(folder, name.replace("step_actions", "main"), file.read())
     subprocess.run(["rustc", "--edition", "2021", "-O", "-A", "warnings", "main.rs", "-o", "compare"], cwd=folder, check=True)
     subprocess.run(["cc", "-O1", os.path.join(HERE, "step_actions.c"), "-o", os.path.join(folder, "step")], check=True)
 
