@@ -17,7 +17,8 @@ use Rattle.framehop_code.specs.declared.aarch64.form.Row.{Row}
 use Rattle.framehop_code.specs.declared.action.Action.TheVariants.{Branch, BranchWithLink, Forget, Jump, Move, ReturnTo}
 use Rattle.framehop_code.specs.declared.action.Source.TheVariants as source
 use Rattle.framehop_code.specs.declared.action.Width.TheVariants.{Eight}
-use Rattle.framehop_code.specs.Aarch64.Access.{overlaps, pair}
+use Rattle.framehop_code.specs.Aarch64.Access.{overlaps}
+use Rattle.framehop_code.specs.Aarch64.Pair.{pair}
 use Rattle.framehop_code.specs.Aarch64.Action.{actions_of, actions_in, actions_at, imm12, wide}
 use Rattle.framehop_code.specs.Aarch64.Fields.{is_set, rd, rn, rt2}
 use Rattle.framehop_code.specs.Aarch64.Forms.{row, rows, row_in, form_in, form_of}
@@ -111,19 +112,19 @@ offset-form : (load word : ℕ) (a : machine.Access) → a.mode ≡ 2 → IsPair
     → form_of word ≡ form.Pair addressing.Offset
 unfolding conflicts pair-bits bit
 offset-form load word a is p plain =
-    pair-form 2 load word a is p plain 70 (row 0x3B800000 0x29000000 (form.Pair addressing.Offset)) refl refl refl refl
+    pair-form 2 load word a is p plain 71 (row 0x3B800000 0x29000000 (form.Pair addressing.Offset)) refl refl refl refl
 
 after-form : (load word : ℕ) (a : machine.Access) → a.mode ≡ 1 → IsPair load word a → field word 30 30 ≡ 0
     → form_of word ≡ form.Pair addressing.PostIndexed
 unfolding conflicts pair-bits bit
 after-form load word a is p plain =
-    pair-form 1 load word a is p plain 71 (row 0x3B800000 0x28800000 (form.Pair addressing.PostIndexed)) refl refl refl refl
+    pair-form 1 load word a is p plain 72 (row 0x3B800000 0x28800000 (form.Pair addressing.PostIndexed)) refl refl refl refl
 
 before-form : (load word : ℕ) (a : machine.Access) → a.mode ≡ 3 → IsPair load word a → field word 30 30 ≡ 0
     → form_of word ≡ form.Pair addressing.PreIndexed
 unfolding conflicts pair-bits bit
 before-form load word a is p plain =
-    pair-form 3 load word a is p plain 72 (row 0x3B800000 0x29800000 (form.Pair addressing.PreIndexed)) refl refl refl refl
+    pair-form 3 load word a is p plain 73 (row 0x3B800000 0x29800000 (form.Pair addressing.PreIndexed)) refl refl refl refl
 
 -- sp is no general register
 apart : (word : ℕ) (register : Register) → (rn word).0 ≡ 31 → overlaps word register ≡ false

@@ -6,5 +6,7 @@ pub mod Machine
 pub mod Forms
 pub mod Fields
 pub mod Access
+pub mod Pair
+pub mod Structure
 pub mod Action
 pub mod MachineActions
