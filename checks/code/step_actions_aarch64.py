@@ -24,6 +24,7 @@ FILES = ["access", "action", "encoding", "field", "form", "instruction", "pair",
 LINE = re.compile(r"^ *[0-9a-f]+:\t([0-9a-f]{8}) *\t(.*)$")
 NUMBER = re.compile(r"-?\b0x[0-9a-f]+|#-?[0-9.]+|<[^>]*>|\b[0-9a-f]{3,}\b|\b[wxvqdshbzp]\d+\b|\bw?sp\b|\b[xw]zr\b")
 TRIALS = 3
+STEP = re.compile(rb"[0-9a-f]{8} ")
 ROW = re.compile(r"^ *Row\((0x[0-9a-f_]+), (0x[0-9a-f_]+), ", re.M)
 
 
@@ -69,7 +70,8 @@ def step(folder, words):
             given = "".join(f"{word:08x}\n" for word in words).encode()
             command = ["qemu-aarch64", "-cpu", "max,pauth=off", os.path.join(folder, "step")]
             run = subprocess.run(command, input=given, stdout=subprocess.PIPE, stderr=subprocess.DEVNULL, check=False)
-            lines = run.stdout.split(b"\n")[:-1]
+            # where qemu ends, it writes a line of its own
+            lines = [line for line in run.stdout.split(b"\n")[:-1] if STEP.match(line)]
             done = len(lines) // TRIALS
             steps.writelines(line + b"\n" for line in lines[: done * TRIALS])
             ended += done < len(words)
