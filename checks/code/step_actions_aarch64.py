@@ -20,17 +20,21 @@ import tempfile
 
 from step_actions import CRATES, HERE, build_crates, source_of, write
 
-FILES = ["access", "action", "encoding", "field", "form", "instruction"]
+FILES = ["access", "action", "encoding", "field", "form", "instruction", "pair", "structure"]
 LINE = re.compile(r"^ *[0-9a-f]+:\t([0-9a-f]{8}) *\t(.*)$")
-NUMBER = re.compile(r"-?\b0x[0-9a-f]+|#-?[0-9.]+|<[^>]*>|\b[0-9a-f]{3,}\b|\b[wxvqdshbzp]\d+\b|\bsp\b|\bw?sp\b|\b[xw]zr\b")
+NUMBER = re.compile(r"-?\b0x[0-9a-f]+|#-?[0-9.]+|<[^>]*>|\b[0-9a-f]{3,}\b|\b[wxvqdshbzp]\d+\b|\bw?sp\b|\b[xw]zr\b")
 TRIALS = 3
+STEP = re.compile(rb"[0-9a-f]{8} ")
 ROW = re.compile(r"^ *Row\((0x[0-9a-f_]+), (0x[0-9a-f_]+), ", re.M)
 
 
 def is_left_out(word):
-    """System calls, MSR and SYS but for DC ZVA, and B to itself."""
-    system = word >> 21 == 0xD5000000 >> 21 and word >> 12 != 0xD5032 and word >> 12 != 0xD5033 and word >> 5 != 0xD50B7420 >> 5
-    return word >> 24 == 0xD4 or system or word & 0x7FFFFFFF == 0x14000000 or word & 0xFF00001F == 0x54000000 and not word >> 5 & 0x7FFFF
+    """System calls, MSR and SYS but for DC ZVA, and branches to themselves."""
+    is_system = word >> 21 == 0xD5000000 >> 21 and word >> 12 not in (0xD5032, 0xD5033) and word >> 5 != 0xD50B7420 >> 5
+    is_branch = word & 0x7FFFFFFF == 0x14000000
+    is_branch |= (word >> 24 == 0x54 or word & 0x7E000000 == 0x34000000) and not word >> 5 & 0x7FFFF
+    is_branch |= word & 0x7E000000 == 0x36000000 and not word >> 5 & 0x3FFF
+    return word >> 24 == 0xD4 or is_system or is_branch
 
 
 def words_of(path):
@@ -66,7 +70,8 @@ def step(folder, words):
             given = "".join(f"{word:08x}\n" for word in words).encode()
             command = ["qemu-aarch64", "-cpu", "max,pauth=off", os.path.join(folder, "step")]
             run = subprocess.run(command, input=given, stdout=subprocess.PIPE, stderr=subprocess.DEVNULL, check=False)
-            lines = run.stdout.split(b"\n")[:-1]
+            # where qemu ends, it writes a line of its own
+            lines = [line for line in run.stdout.split(b"\n")[:-1] if STEP.match(line)]
             done = len(lines) // TRIALS
             steps.writelines(line + b"\n" for line in lines[: done * TRIALS])
             ended += done < len(words)

@@ -57,6 +57,11 @@ fn narrowed(value: u64, size: u64) -> u64 {
     if size == 4 { value & 0xffff_ffff } else { value }
 }
 
+/// Whether a word at an address is on the pages of code, of which the second begins with the instruction.
+fn is_code(address: u64) -> bool {
+    (CODE - 0x1007..CODE + 0x1000).contains(&address)
+}
+
 impl State {
     fn address(&self, a: &Address) -> u64 {
         let base = a.base.map_or(0, |r| self.registers[r.0 as usize]);
@@ -68,7 +73,7 @@ impl State {
     fn operand(&self, operand: &Operand, size: u64) -> Option<u64> {
         match operand {
             Operand::Register(r) => Some(narrowed(self.registers[r.0 as usize], size)),
-            Operand::Memory(Place::At(a)) if self.address(a) >> 12 != CODE >> 12 => Some(load(self.address(a), size, &BTreeMap::new())),
+            Operand::Memory(Place::At(a)) if !is_code(self.address(a)) => Some(load(self.address(a), size, &BTreeMap::new())),
             Operand::Memory(_) => None,
         }
     }

@@ -1,7 +1,7 @@
 -- The instructions of the machine, read by the encodings.
-use Rattle.std.proofs.Common.{◌≡◌, ◌≢◌, ◌⊎◌, ℕ, zero, suc, ◌+◌, ◌-◌, ◌*◌, ◌/◌, ◌%◌, ◌^◌, ◌<◌, ◌≤◌, ◌==◌, eq-eqb, ℤ, pos, negsuc, ◌+ℤ◌, ◌-ℤ◌, ◌*ℤ◌, Bool, true, false, not, ◌&&◌, ◌||◌, nat_le, nat_lt, if◌then◌else◌, List, [], ◌∷◌, length, take, drop, Option, Some, None, Ok, Err, refl, sym, ap, subst, ◌∙◌, arith, inl, inr, bit_and}
-use Rattle.std.specs.Prelude.{slice_get, slice_index, find}
-use Rattle.std.specs.List.{list_all, list_any}
+use Rattle.std.proofs.Common.{◌≡◌, ◌≢◌, ◌⊎◌, ℕ, zero, suc, ◌+◌, ◌*◌, ◌/◌, ◌%◌, ◌^◌, ◌<◌, ◌≤◌, ◌==◌, eq-eqb, ℤ, pos, negsuc, ◌+ℤ◌, ◌-ℤ◌, ◌*ℤ◌, Bool, true, false, not, ◌&&◌, ◌||◌, nat_lt, if◌then◌else◌, List, [], ◌∷◌, length, take, drop, Option, Some, None, Ok, refl, sym, ap, subst, ◌∙◌, arith, inl, inr, bit_and}
+use Rattle.std.specs.Prelude.{slice_index}
+use Rattle.std.specs.List.{list_all}
 use Rattle.std.proofs.lemmas.Int.{ints}
 use Rattle.std.proofs.lemmas.Nat.{and_le_r}
 use Rattle.std.proofs.lemmas.Bool.{le-leb, cases_Bool, eqb-true, ltb-true, and_parts}
@@ -20,22 +20,22 @@ use Rattle.framehop_code.specs.declared.effect.Flow.TheVariants as flow
 use Rattle.framehop_cfi.specs.Numbers.{u32_at}
 use Rattle.framehop_bytes.specs.Bytes.{le4}
 use Rattle.framehop_code.specs.declared.effect.Base.{Base}
-use Rattle.framehop_code.specs.Effect.{State, Becomes, Does, plain, with_register, is_away}
+use Rattle.framehop_code.specs.Effect.{Becomes, Does, plain, with_register, is_away}
 use Rattle.framehop_code.specs.Effect.{kept as kept_value}
-use Rattle.framehop_code.specs.Aarch64.Instruction.{numbered, rd, rn, rt2, rs, imm9, moved, moving_base, moving, added, exclusive, compare_pair, memory_copy, instruction_at, signed_imm12, scale_of, pair_offset, setting, writing, writing_pair, moving_by_pair, effect_of_class, effect_of}
+use Rattle.framehop_code.specs.Aarch64.Instruction.{numbered, rd, rn, rt2, rs, imm9, moved, moving_base, moving, added, exclusive, compare_pair, memory_copy, effect_in, instruction_at, signed_imm12, scale_of, pair_offset, setting, writing, writing_pair, moving_by_pair, effect_of_class, effect_of}
 use Rattle.framehop_code.specs.declared.aarch64.encoding.Class.{Class}
 use Rattle.framehop_code.specs.declared.aarch64.encoding.Class.TheVariants as class
 use Rattle.framehop_code.specs.declared.aarch64.encoding.Encoding.{Encoding}
-use Rattle.framehop_code.specs.Aarch64.Machine.{as_numbers, DoesNotWrap, DoesAs, LeadsAs, IsAsMachine, AreAsMachine}
+use Rattle.framehop_code.specs.Aarch64.Machine.{as_numbers, DoesNotWrap, DoesAs, AreAsMachine}
 use Rattle.framehop_code.specs.Aarch64.Encodings.{encoding, encodings, encoding_in, class_in, class_of}
 
 -- ---- bits
 
-bit : ℕ → ℕ → ℕ
+unfoldable pub bit : ℕ → ℕ → ℕ
 bit word place = word / 2 ^ place % 2 ^ 1
 
 -- some bits of a word
-Bits : ℕ → List (ℕ × ℕ) → Type 0
+unfoldable pub Bits : ℕ → List (ℕ × ℕ) → Type 0
 Bits word [] = Unit {0}
 Bits word (known ∷ rest) = (bit word known.0 ≡ known.1) × Bits word rest
 
@@ -44,7 +44,7 @@ conflicts : List (ℕ × ℕ) → Encoding → Bool
 conflicts [] e = false
 conflicts (known ∷ rest) e = ((bit e.0 known.0 == 1) && not (bit e.1 known.0 == known.1)) || conflicts rest e
 
-other-word : (word mask value place known : ℕ) → bit word place ≡ known → ((bit mask place == 1) && not (bit value place == known)) ≡ true
+pub other-word : (word mask value place known : ℕ) → bit word place ≡ known → ((bit mask place == 1) && not (bit value place == known)) ≡ true
     → (bit_and word mask == value) ≡ false
 unfolding bit
 other-word word mask value place known is differs =
@@ -93,7 +93,7 @@ class-from word known count e table has all rest is =
 
 -- ---- sums
 
-scaled : (units : ℕ) (large : Bool) → pos units *ℤ (if large then pos 4096 else pos 1) ≡ pos (units * (if large then 2 ^ 12 else 1))
+pub scaled : (units : ℕ) (large : Bool) → pos units *ℤ (if large then pos 4096 else pos 1) ≡ pos (units * (if large then 2 ^ 12 else 1))
 scaled units true = omega (arith, ints)
 scaled units false = omega (arith, ints)
 
@@ -175,7 +175,7 @@ has-pair-bits load word a fits p =
     let l = p.l in
     (omega arith, (omega arith, (omega arith, (omega arith, (omega arith, (omega arith, (omega arith, (omega arith, (omega arith, tt)))))))))
 
-mode-fits : (load word : ℕ) (a : machine.Access) → IsPair load word a → a.mode < 4
+pub mode-fits : (load word : ℕ) (a : machine.Access) → IsPair load word a → a.mode < 4
 mode-fits load word a p = let m = p.mode_is in omega arith
 
 -- the mask of pairs of general registers, by bits 23 and 22
@@ -712,9 +712,9 @@ signing-next word (machine.pacibsp is) = subst (λ (w : ℕ). (effect_of w).flow
 signing-next word (machine.autibsp is) = subst (λ (w : ℕ). (effect_of w).flow ≡ Next) (sym is) refl
 
 -- the word at an offset
-word-at : (bytes : List ℕ) (at word : ℕ) → IsInstructionAt bytes at word → instruction_at bytes at ≡ Some (effect_of word)
-unfolding instruction_at u32_at
-word-at bytes at word i =
+pub word-read : (bytes : List ℕ) (at word : ℕ) → IsInstructionAt bytes at word → u32_at bytes at ≡ Ok (word, at + 4)
+unfolding u32_at
+word-read bytes at word i =
     let within = slice_get_within bytes (at + 3) i.fourth i.fourth_is in
     let first : slice_index bytes at ≡ i.first = get_or_from_slice_get bytes at i.first 0 i.first_is in
     let second : slice_index bytes (at + 1) ≡ i.second = get_or_from_slice_get bytes (at + 1) i.second 0 i.second_is in
@@ -722,7 +722,11 @@ word-at bytes at word i =
     let fourth : slice_index bytes (at + 2 + 1) ≡ i.fourth =
     (let three : at + 2 + 1 ≡ at + 3 = omega arith in ap (slice_index bytes) three ∙ get_or_from_slice_get bytes (at + 3) i.fourth 0 i.fourth_is) in
     let whole : le4 bytes at ≡ word = (let is = i.word_is in omega (arith, first, second, third, fourth, is)) in
-    rw (le-leb (at + 4) (length bytes) (omega (arith, within))) (ap (λ (w : ℕ). Some (effect_of w)) whole)
+    rw (le-leb (at + 4) (length bytes) (omega (arith, within))) (ap (λ (w : ℕ). Ok (w, at + 4)) whole)
+
+word-at : (bytes : List ℕ) (at word : ℕ) → IsInstructionAt bytes at word → instruction_at bytes at ≡ Some (effect_of word)
+unfolding instruction_at
+word-at bytes at word i = ap effect_in (word-read bytes at word i)
 
 pub as-machine : (bytes : List ℕ) (at : ℕ) → AreAsMachine bytes at (instruction_at bytes at)
 as-machine bytes at word i = record {

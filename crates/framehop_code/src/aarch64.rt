@@ -9,6 +9,8 @@ pub mod encoding;
 pub mod field;
 pub mod form;
 pub mod instruction;
+pub mod pair;
+pub mod structure;
 
 use crate::effect::{Base, Code, Effect};
 use framehop_cfi::aarch64::{SP, X29, X30};

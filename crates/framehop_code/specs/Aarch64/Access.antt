@@ -1,6 +1,6 @@
--- What the loads and stores of aarch64 do to general registers and memory (Arm Architecture Reference Manual for A-profile,
--- "A64 base instruction descriptions").
-use Rattle.std.specs.Prelude.{ℕ, ℤ, pos, ◌+ℤ◌, ◌*ℤ◌, ◌+◌, ◌*◌, Bool, true, false, not, ◌==◌, ◌&&◌, ◌||◌, if◌then◌else◌, bit_or, [], ◌∷◌, Option, Some, None}
+-- What the loads and stores of one register do to general registers and memory, and those of memory tags (Arm Architecture
+-- Reference Manual for A-profile, "A64 base instruction descriptions").
+use Rattle.std.specs.Prelude.{ℕ, ℤ, pos, ◌*ℤ◌, ◌+◌, ◌*◌, Bool, true, false, not, ◌==◌, ◌&&◌, ◌||◌, if◌then◌else◌, [], ◌∷◌, Option, Some, None}
 use Rattle.framehop_core.specs.Bits.{bits_at}
 use Rattle.framehop_bytes.specs.ByCode.{by_code}
 use Rattle.framehop_cfi.specs.declared.rule.Register.{Register}
@@ -20,8 +20,8 @@ use Rattle.framehop_code.specs.declared.aarch64.access.Transfer.TheVariants.{Loa
 use Rattle.framehop_code.specs.declared.aarch64.action.Actions.{Actions}
 use Rattle.framehop_code.specs.declared.aarch64.form.Addressing.{Addressing}
 use Rattle.framehop_code.specs.declared.aarch64.form.Addressing.TheVariants as addressing
-use Rattle.framehop_code.specs.Aarch64.Fields.{above, access_size, ahead, general_set, is_quad, is_set, named, pair_size, rd, rm, rn, rt2, set_of, size_of, value_of}
-use Rattle.framehop_code.specs.Aarch64.Instruction.{distance, imm9, signed}
+use Rattle.framehop_code.specs.Aarch64.Fields.{above, access_size, ahead, general_set, is_quad, is_set, named, rd, rm, rn, set_of, size_of, value_of}
+use Rattle.framehop_code.specs.Aarch64.Instruction.{distance, imm9}
 
 -- ---- actions
 
@@ -172,137 +172,6 @@ literal word =
     let at = At (ahead (distance (bits_at word 5 19) 0x40000)) in
     let transfer = by_code (bits_at word 30 2) ((0, Load Four) ∷ (1, Load Eight) ∷ []) LoadSigned in
     alone (transferred transfer (rd word) at)
-
--- ---- pairs
-
--- how many bytes a register has: by opc 4, 8 or 16 of vector registers; of general ones 1 is LDPSW, or STGP
-abbrev pub pair_unit : ℕ → ℕ
-pair_unit word =
-    let opc = bits_at word 30 2 in
-    if opc == 0 then 4
-    else (if opc == 1 then (if not (is_set word 26) && is_set word 22 then 4 else 8)
-    else (if is_set word 26 then 16 else 8))
-
--- imm7 counts what a register has; of STGP it counts 16 bytes
-abbrev pub pair_scale : ℕ → ℕ
-pair_scale word =
-    if not (is_set word 26 || is_set word 22) && (bits_at word 30 2 == 1) then 16 else pair_unit word
-
-abbrev pub pair_bytes : ℕ → ℤ
-pair_bytes word = signed (bits_at word 15 7) 0x40 *ℤ pos (pair_scale word)
-
--- how far above the base register the pair is
-abbrev pub pair_at : ℕ → Addressing → ℤ
-pair_at word form = displacement form (pair_bytes word)
-
--- L is 1 for a load
-abbrev pub pair_stored : ℕ → Addressing → Option Stored
-pair_stored word form =
-    if is_set word 22 then None else bytes_at (At (above (rn word) (pair_at word form))) (pair_unit word * 2)
-
-abbrev pub vector_pair : ℕ → Addressing → Action
-vector_pair word form = forgetting 0 (pair_stored word form)
-
--- unpredictable: a register is loaded twice, or is the base that is moved
-abbrev pub pair_overlaps : ℕ → Addressing → Bool
-pair_overlaps word form =
-    (is_set word 22 && ((rd word).0 == (rt2 word).0))
-    || (is_indexed form && (overlaps word (rd word) || overlaps word (rt2 word)))
-
-abbrev pub pair_forgotten : ℕ → Addressing → Action
-pair_forgotten word form =
-    forgetting (bit_or (bit_or (general_set (rd word)) (general_set (rt2 word))) (set_of (rn word))) (pair_stored word form)
-
--- by L and opc: LDP and STP of 32 bits, LDPSW, and of 64 bits LDP, STP and STGP
-abbrev pub pair_transfer : ℕ → Transfer
-pair_transfer word =
-    let opc = bits_at word 30 2 in
-    if is_set word 22 then by_code opc ((0, Load Four) ∷ (1, LoadSigned) ∷ []) (Load Eight)
-    else (if opc == 0 then Store Four else Store Eight)
-
-abbrev pub pair_member : ℕ → Register → ℤ → Action
-pair_member word register at = transferred (pair_transfer word) register (At (above (rn word) at))
-
--- the second register's word comes after the first one's
-abbrev pub pair_next : ℕ → Addressing → ℤ
-pair_next word form = pair_at word form +ℤ pos (pair_unit word)
-
--- two accesses, then the base; where the first one loads the base, the second comes before it
-abbrev pub ordered : ℕ → Action → Action → Option Action → Actions
-ordered word first second base =
-    if overlaps word (rd word) then record { first = second; second = Some first; third = base }
-    else record { first = first; second = Some second; third = base }
-
-abbrev pub general_pair : ℕ → Addressing → Actions
-general_pair word form =
-    ordered word (pair_member word (rd word) (pair_at word form)) (pair_member word (rt2 word) (pair_next word form))
-    (base_moved word form (pair_bytes word))
-
--- a load or store of a pair
-abbrev pub pair : ℕ → Addressing → Actions
-pair word form =
-    if is_set word 26 then with_base (vector_pair word form) (base_moved word form (pair_bytes word))
-    else (if pair_overlaps word form then alone (pair_forgotten word form) else general_pair word form)
-
--- ---- vectors of structures
-
--- how many registers LD1 to LD4 and ST1 to ST4 (multiple structures) access, by opcode
-abbrev pub structure_count : ℕ → Option ℕ
-structure_count word =
-    by_code (bits_at word 12 4) (
-    (0, Some 4) ∷ (2, Some 4) ∷ (4, Some 3) ∷ (6, Some 3) ∷ (7, Some 1) ∷ (8, Some 2) ∷ (10, Some 2) ∷ []) None
-
--- the base is moved by Rm, of which 31 says so many bytes
-abbrev pub is_none : Option Index → Bool
-is_none None = true
-is_none (Some index) = false
-
-abbrev pub vectors_moved : ℕ → ℕ → Action
-vectors_moved word bytes =
-    let index = index_of (rm word) 1 in
-    moved (rn word) (source.Address (record {
-      base = Some (rn word);
-      index = index;
-      displacement = if is_none index then bytes else 0;
-      from_next = false;
-    })) Eight
-
-abbrev pub vectors_base : ℕ → Addressing → ℕ → Option Action
-vectors_base word addressing.PostIndexed bytes = Some (vectors_moved word bytes)
-vectors_base word _ bytes = None
-
--- an access to so many bytes at the base, and how that is moved; L is 1 for a load
-abbrev pub with_vectors : ℕ → Addressing → ℕ → Actions
-with_vectors word form bytes =
-    with_base (if is_set word 22 then nothing else forgetting 0 (bytes_at (At (above (rn word) (pos 0))) bytes))
-    (vectors_base word form bytes)
-
-abbrev pub with_size : ℕ → Addressing → Option ℕ → ℕ → Option Actions
-with_size word form (Some number) unit = Some (with_vectors word form (number * unit))
-with_size word form None unit = None
-
--- a register has 8 bytes, or 16 by Q
-abbrev pub structures : ℕ → Addressing → Option Actions
-structures word form = with_size word form (structure_count word) (pair_size word)
-
--- LD1R to LD4R have an element by size, and no store has 3 in the high bits of opcode
-abbrev pub replicated_size : ℕ → Option ℕ
-replicated_size word =
-    if not (is_set word 22) then None
-    else by_code (bits_at word 10 2) ((0, Some 1) ∷ (1, Some 2) ∷ (2, Some 4) ∷ []) (Some 8)
-
--- an element of a single structure, by those bits and by size
-abbrev pub element_size : ℕ → Option ℕ
-element_size word =
-    by_code (bits_at word 14 2) (
-    (0, Some 1) ∷ (1, Some 2) ∷ (2, if is_set word 10 then Some 8 else Some 4) ∷ []) (replicated_size word)
-
--- how many it has, by R and the low bit of opcode
-abbrev pub element_count : ℕ → ℕ
-element_count word = if is_set word 13 then (if is_set word 21 then 4 else 3) else (if is_set word 21 then 2 else 1)
-
-abbrev pub structure : ℕ → Addressing → Option Actions
-structure word form = with_size word form (element_size word) (element_count word)
 
 -- ---- memory tags
 

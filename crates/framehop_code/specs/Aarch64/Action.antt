@@ -21,10 +21,12 @@ use Rattle.framehop_code.specs.declared.aarch64.form.Form.{Form}
 use Rattle.framehop_code.specs.declared.aarch64.form.Form.TheVariants as form
 use Rattle.framehop_code.specs.declared.aarch64.form.Written.{Written}
 use Rattle.framehop_code.specs.declared.aarch64.form.Written.TheVariants as written
-use Rattle.framehop_code.specs.Aarch64.Access.{accessed, alone, bytes_at, forgetting, index_of, literal, moved, moved_general, pair, structure, structures, tagged}
+use Rattle.framehop_code.specs.Aarch64.Access.{accessed, alone, bytes_at, forgetting, index_of, literal, moved, moved_general, tagged}
 use Rattle.framehop_code.specs.Aarch64.Fields.{above, ahead, general_set, is_set, named, pair_size, rd, rm, rn, rt2, set_of, size_of, value_of, width_of}
 use Rattle.framehop_code.specs.Aarch64.Forms.{form_of}
 use Rattle.framehop_code.specs.Aarch64.Instruction.{distance, imm9, signed}
+use Rattle.framehop_code.specs.Aarch64.Pair.{pair}
+use Rattle.framehop_code.specs.Aarch64.Structure.{structure, structures}
 
 -- ---- what is forgotten
 

@@ -66,6 +66,7 @@ rows =
     ∷ row 0xFFFFFFE0 0xD50B7420 (Forget Nothing Elsewhere)
     ∷ row 0xFFFFFFE0 0xD50B7480 (Forget Nothing Elsewhere)
     ∷ row 0xFFFFF0FF 0xD50040BF Undescribed
+    ∷ row 0xFFFFFFE0 0xD5184200 Undescribed
     -- hints, barriers, MSR and SYS; MRS and SYSL
     ∷ row 0xFFE00000 0xD5000000 (Forget Nothing Zero)
     ∷ row 0xFFE00000 0xD5200000 (Forget Rd Zero)

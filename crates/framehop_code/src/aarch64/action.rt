@@ -7,15 +7,18 @@
 //! PACIASP does.
 ghost use Rattle.std.specs.Prelude.{◌≡◌, pos, ◌≤ℤ◌};
 ghost use Rattle.framehop_code.specs.Aarch64.Access.{nothing, forgetting, moved, moved_general, alone};
+ghost use Rattle.framehop_code.specs.Aarch64.MachineActions.{AreActionsAsMachine};
 ghost use Rattle.framehop_code.specs.Aarch64.Action.{written_set, written_memory, forgotten, imm12, sum, shifted_sum, wide, adr, leading, returning, action_of, actions_of, actions_at};
 
-use super::access::{accessed, index_of, literal, pair, structure, structures, tagged};
+use super::access::{accessed, index_of, literal, tagged};
 use super::field::{
     above, ahead, general_set, is_set, named, pair_size, rd, rm, rn, rt2, set_of, size_of,
     value_of, width_of,
 };
 use super::form::{Bytes, Form, Written, form_of};
 use super::instruction::{bits, distance, imm9, signed};
+use super::pair::pair;
+use super::structure::{structure, structures};
 use crate::action::{Action, Address, Operand, Place, Registers, Source, Stored, Width};
 use framehop_cfi::aarch64::X30;
 use framehop_cfi::numbers::read_u32;
@@ -35,6 +38,7 @@ pub struct Actions {
 #[tactic(auto, unfolding(crate::specs::Aarch64::Action::actions_at, framehop_cfi::specs::Numbers::u32_at))]
 pub fn actions_at(code: &[u8], at: usize) -> Option<Actions>
     ensures exact { result ≡ actions_at code.now at }
+    ensures machine { AreActionsAsMachine code.now at result }
 {
     match read_u32(code, at) {
         Ok((word, _)) => actions_of(word, form_of(word)),

@@ -115,7 +115,7 @@ pub(crate) enum Bytes {
 pub(crate) struct Row(pub u32, pub u32, pub Form);
 
 /// The encodings; of several that fit the first one counts.
-static ROWS: [Row; 94] = [
+static ROWS: [Row; 95] = [
     // ---- SME and SVE
     // SME
     Row(0x9e00_0000, 0x8000_0000, Forget(Rd, Elsewhere)),
@@ -167,6 +167,7 @@ static ROWS: [Row; 94] = [
     Row(0xffff_ffe0, 0xd50b_7420, Forget(Nothing, Elsewhere)),
     Row(0xffff_ffe0, 0xd50b_7480, Forget(Nothing, Elsewhere)),
     Row(0xffff_f0ff, 0xd500_40bf, Undescribed),
+    Row(0xffff_ffe0, 0xd518_4200, Undescribed),
     // hints, barriers, MSR and SYS; MRS and SYSL
     Row(0xffe0_0000, 0xd500_0000, Forget(Nothing, Zero)),
     Row(0xffe0_0000, 0xd520_0000, Forget(Rd, Zero)),
