@@ -53,4 +53,5 @@ def main():
         print(os.path.basename(path) + ";" + stack, count)
 
 
-main()
+if __name__ == "__main__":
+    main()
