@@ -1,5 +1,5 @@
 -- The stacks of threads.
-use Rattle.std.specs.Prelude.{ℕ, List, Option, Some, None, option_map, codes}
+use Rattle.std.specs.Prelude.{ℕ, ◌==◌, List, [], drop, slice_get, Option, Some, None, option_map, unwrap_or, bit_and, codes, if◌then◌else◌}
 use Rattle.framehop_core.specs.Aarch64.Registers.{Registers as RegistersAarch64}
 use Rattle.framehop_core.specs.X86_64.Registers.{Registers as RegistersX86_64}
 use Rattle.framehop_dump_files.specs.Coredump.Registers as kernel
@@ -22,10 +22,16 @@ abbrev pub begins_x86_64 : RegistersView → Option (Start RegistersX86_64)
 begins_x86_64 (of_kernel values pac_mask) = option_map x86_64_start (kernel.x86_64_registers values)
 begins_x86_64 (of_context values code_mask) = option_map x86_64_start (context.x86_64_registers values)
 
+-- A context has x0 to x28 where the bit 2 of its flags says it, that of CONTEXT_ARM64_INTEGER: from its byte 8 on.
+abbrev pub general_words : List ℕ → List ℕ
+general_words values = if bit_and (unwrap_or (slice_get values 0) 0) 2 == 2 then drop 8 values else []
+
+-- in a core file x0 comes first
 abbrev pub begins_aarch64 : RegistersView → Option (Start RegistersAarch64)
 begins_aarch64 (of_kernel values pac_mask) =
-    option_map aarch64_start (kernel.aarch64_registers (kernel.code_mask_of pac_mask) values)
-begins_aarch64 (of_context values code_mask) = option_map aarch64_start (context.aarch64_registers code_mask values)
+    option_map (aarch64_start values) (kernel.aarch64_registers (kernel.code_mask_of pac_mask) values)
+begins_aarch64 (of_context values code_mask) =
+    option_map (aarch64_start (general_words values)) (context.aarch64_registers code_mask values)
 
 -- the code of a process, by its mappings
 abbrev pub code_in : DumpView → Files → List Mapping → Code

@@ -4,5 +4,6 @@ mod LineLemmas
 mod NoteLemmas
 mod NumberedLemmas
 mod JsonLemmas
+pub mod StartLemmas
 pub mod FloatLemmas
 mod MissingLemmas

@@ -15,28 +15,25 @@ use Rattle.framehop_backtrace.specs.Backtrace.{Backtrace, FrameView, Stack, back
 use Rattle.framehop_backtrace.specs.Code.{Code}
 use Rattle.framehop_backtrace.specs.Covers.{is_covered}
 use Rattle.framehop_backtrace.specs.Info.{is_by_info}
-use Rattle.framehop_backtrace.specs.Machine.{Machine, machine_x86_64, machine_aarch64, all_columns}
+use Rattle.framehop_backtrace.specs.Machine.{Machine, machine_x86_64, machine_aarch64}
 use Rattle.framehop_backtrace.specs.Rows.{Finding, finding_in, rows_of}
 use Rattle.framehop_backtrace.specs.declared.frame.FoundBy.TheVariants.{First}
 use Rattle.framehop_frames.specs.declared.machine.Start.{Start}
 
 -- `machine`: what a backtrace needs of the architecture. By the bytes of modules, read afresh: what a step of the library
 -- does, whether PE or compact unwind info unwinds a frame, and the rows of call frame information: in a module's unwind data, for
--- a relative address in a frame of this kind, and in all modules. `columns`: the
--- registers with which a walk begins, by columns.
+-- a relative address in a frame of this kind, and in all modules.
 pub record Walker (Regs : Type 0) : Type 0 where
   pub machine : Machine Regs
   pub step : List ModuleView → FrameLocation → Regs → Memory → Outcome Regs
   pub is_by_info : List ModuleView → FrameLocation → Regs → Memory → Bool
   pub row_in : Option StorageLimits → UnwindData → ℕ → Bool → Finding
   pub rows : List ModuleView → FrameLocation → Finding
-  pub columns : ℕ → Regs → List (Option ℕ)
 
 -- Rows of stacks take no memory while they are made: of 192 register rules, and 3 remembered rows.
 abbrev pub row_limits : Option StorageLimits
 row_limits = without_allocation.rows
 
--- all registers of x86_64, and those of aarch64 that a step of the library takes
 abbrev pub x86_64_walker : Walker RegistersX86_64
 x86_64_walker = record {
   machine = machine_x86_64;
@@ -44,7 +41,6 @@ x86_64_walker = record {
   is_by_info = λ modules location regs memory. is_by_info x86_64_readers regs memory modules location;
   row_in = finding_in x86_64_readers.compact;
   rows = rows_of x86_64_readers.compact row_limits;
-  columns = λ pc regs. all_columns regs;
 }
 
 abbrev pub aarch64_walker : Walker RegistersAarch64
@@ -54,7 +50,6 @@ aarch64_walker = record {
   is_by_info = λ modules location regs memory. is_by_info aarch64_readers regs memory modules location;
   row_in = finding_in aarch64_readers.compact;
   rows = rows_of aarch64_readers.compact row_limits;
-  columns = machine_aarch64.columns;
 }
 
 module _ {Regs : Type 0} (walker : Walker Regs) where
@@ -74,7 +69,7 @@ module _ {Regs : Type 0} (walker : Walker Regs) where
   abbrev pub first_frame : Start Regs → FrameView Regs
   first_frame start = record {
     location = at_instruction_pointer start.pc;
-    columns = walker.columns start.pc start.regs;
+    columns = start.columns;
     regs = start.regs;
     found = First;
   }

@@ -28,5 +28,6 @@ pub mod numbered;
 pub mod place;
 pub mod rows;
 pub mod stack;
+pub mod start;
 mod unseen;
 pub mod walk;

@@ -17,7 +17,6 @@ use framehop::walk::Words;
 use framehop::x86_64::{CacheX86_64, UnwindRegsX86_64, UnwinderX86_64};
 use framehop::{FrameAddress, Module, Unwinder};
 use framehop_backtrace::rows::row_in_module;
-use framehop_backtrace::x86_64::all_columns;
 use framehop_backtrace::{BacktraceEnd, BacktraceUnwinder, FoundBy, RowFinding, Rows};
 use framehop_callers::register_file::RegisterFile;
 use framehop_cfi::context::UnwindContext;
@@ -35,8 +34,10 @@ pub struct Start<R: Copy> {
     pub pc: u64,
     /// The stack pointer (AVMA).
     pub sp: u64,
-    /// All registers.
+    /// The registers of the library's steps.
     pub regs: R,
+    /// All registers by their columns, each known or not.
+    pub columns: RegisterFile,
 }
 
 /// An unwinder for the stacks of its machine.
@@ -51,10 +52,6 @@ pub trait Steps: ProcessUnwinder + BacktraceUnwinder + Rows {
     /// Returns an empty cache, which changes no answer of any unwinder.
     fn new_cache(alloc: Global) -> Result<Self::Cache, AllocError>
         ensures { IfOk result (λ cache. (view : UnwinderView) → Self.is_sound view cache) };
-
-    /// Returns the registers with which a walk begins, by columns.
-    fn first_columns(start: &Start<Self::UnwindRegs>) -> RegisterFile
-        ensures { result ≡ walker.columns start.now.pc start.now.regs };
 
     /// Looks for the row of a frame in a module that lies at no address.
     ///
@@ -117,10 +114,6 @@ impl<D: SectionBytes + Drop> Steps for UnwinderX86_64<D, MustNotAllocateDuringUn
         CacheX86_64::new_in(alloc)
     }
 
-    fn first_columns(start: &Start<UnwindRegsX86_64>) -> RegisterFile {
-        all_columns(&start.regs)
-    }
-
     fn row_in<'a, E: SectionBytes + Drop, S: UnwindContextStorage>(
         module: &'a Module<E>,
         unwind_context: &mut UnwindContext<S>,
@@ -160,10 +153,6 @@ impl<D: SectionBytes + Drop> Steps for UnwinderAarch64<D, MustNotAllocateDuringU
 
     fn new_cache(alloc: Global) -> Result<CacheAarch64<MustNotAllocateDuringUnwind>, AllocError> {
         CacheAarch64::new_in(alloc)
-    }
-
-    fn first_columns(start: &Start<UnwindRegsAarch64>) -> RegisterFile {
-        Self::columns(start.pc, &start.regs)
     }
 
     fn row_in<'a, E: SectionBytes + Drop, S: UnwindContextStorage>(

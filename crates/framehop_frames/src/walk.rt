@@ -38,7 +38,7 @@ pub fn walk_stack<U: Steps, W: Rows, M: CodeMemory>(
     ensures noted { U.is_sound (U.unwinder_view unwinder.now) cache.old → IfOk result (λ stack. noted_stack stack
         ≡ noted_from U.walker limit (U.unwinder_view unwinder.now).modules (W.rows rows.now row_limits) (M.memory memory.now) (M.code memory.now) start) }
 {
-    let first = Frame::first(start.pc, U::first_columns(&start), start.regs);
+    let first = Frame::first(start.pc, start.columns, start.regs);
     let found = backtrace(alloc, unwinder, rows, room, cache, memory, first, limit)?;
     Ok(Stack {
         frames: stack_frames(alloc, memory, found.frames.as_slice())?,
