@@ -290,10 +290,10 @@ printf 'uncovered;_start;run;%s\n' 'aligned 10' 'odd;mix 11' 'work;mix 12' >"$wo
 printf '%s\n' '33 samples, 0 records lost by the kernel' '33 samples with frames that no unwind data tells' \
     'how the stacks ended:' 'root 33' >"$work/uncovered.summary"
 # the same in checks/stacks/uncovered_aarch64.s, counted by the processor's calls and returns (record_steps_aarch64.py)
-printf 'uncovered-aarch64;_start%s\n' ' 2' ';run 6' ';run;odd 5' ';run;odd;mix 2' ';run;vectors 5' ';run;vectors;mix 3' ';run;work 20' \
-    ';run;work;mix 8' >"$work/uncovered-aarch64.folded"
-printf '%s\n' '51 samples, 0 records lost by the kernel' '40 samples with frames that no unwind data tells' \
-    'how the stacks ended:' 'root 51' >"$work/uncovered-aarch64.summary"
+printf 'uncovered-aarch64;_start%s\n' ' 2' ';run 4' ';run;linked 4' ';run;linked;mix 2' ';run;odd 4' ';run;odd;mix 4' ';run;vectors 8' \
+    ';run;vectors;mix 2' ';run;work 20' ';run;work;mix 8' >"$work/uncovered-aarch64.folded"
+printf '%s\n' '58 samples, 0 records lost by the kernel' '48 samples with frames that no unwind data tells' \
+    'how the stacks ended:' 'root 58' >"$work/uncovered-aarch64.summary"
 printf '%s\n' 'other;[frame-pointer-0];other+0x203;[unknown] 1' >"$work/other.folded"
 printf '\037\213\010' >"$work/gzip.data"
 mkdir -p "$work/mixed" && printf 'PERF\0' >"$work/mixed/a.data" && cp "$made/events.data" "$work/mixed/b.data" || exit 1

@@ -1,13 +1,14 @@
 // A program of aarch64 of which half the functions have no call frame information, as hand-written assembly. What calls what
-// is fixed: _start calls run, run calls work, vectors and odd, and each of these calls mix. In work the frame pointer is a
-// counter; vectors saves its return address and vector registers. The CFA of odd is by x9, which mix changes.
+// is fixed: _start calls run, run calls work, linked, vectors and odd, and each of these calls mix. In work the frame pointer
+// is a counter; linked keeps its return address in x15, vectors only that and vector registers. The CFA of odd is by x9, which
+// mix changes.
 //
 // For crates/framehop_stacks_cli/data/srv/uncovered-aarch64 and data/uncovered-aarch64.perf:
 //   aarch64-linux-gnu-as -o uncovered.o uncovered_aarch64.s
 //   aarch64-linux-gnu-ld --build-id=sha1 -z noseparate-code -o /srv/uncovered-aarch64 uncovered.o
 //   env -i PATH="$PATH" checks/stacks/record_steps_aarch64.py /srv/uncovered-aarch64 uncovered-aarch64.perf
         .text
-        .globl  _start, run, work, mix, vectors, odd
+        .globl  _start, run, work, mix, linked, vectors, odd
 
         .type   _start, @function
 _start:
@@ -33,6 +34,7 @@ run:
         .cfi_offset x19, -16
         mov     w19, #2
 1:      bl      work
+        bl      linked
         bl      vectors
         bl      odd
         subs    w19, w19, #1
@@ -74,6 +76,15 @@ mix:
         ror     x0, x0, #7
         ret
         .size   mix, . - mix
+
+        .type   linked, @function
+linked:
+        mov     x15, x30
+        mov     x0, #5
+        bl      mix
+        add     x0, x0, #1
+        ret     x15
+        .size   linked, . - linked
 
         .type   vectors, @function
 vectors:
