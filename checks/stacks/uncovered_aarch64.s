@@ -1,7 +1,7 @@
 // A program of aarch64 of which half the functions have no call frame information, as hand-written assembly. What calls what
 // is fixed: _start calls run, run calls work, linked, vectors and odd, and each of these calls mix. In work the frame pointer
 // is a counter; linked keeps its return address in x15, vectors only that and vector registers. The CFA of odd is by x9, which
-// mix changes.
+// only mix is known to keep.
 //
 // For crates/framehop_stacks_cli/data/srv/uncovered-aarch64 and data/uncovered-aarch64.perf:
 //   aarch64-linux-gnu-as -o uncovered.o uncovered_aarch64.s
@@ -71,8 +71,8 @@ work:
 
         .type   mix, @function
 mix:
-        mul     x9, x0, x0
-        eor     x0, x0, x9
+        mul     x10, x0, x0
+        eor     x0, x0, x10
         ror     x0, x0, #7
         ret
         .size   mix, . - mix
