@@ -1,5 +1,5 @@
 -- One size less of the code that is known.
-use Rattle.std.proofs.Common.{◌≡◌, ℕ, zero, suc, ◌<◌, ◌-◌, List, [], Option, Some, None, refl, ap, sym, ◌∙◌, arith}
+use Rattle.std.proofs.Common.{◌≡◌, ℕ, suc, ◌<◌, ◌-◌, List, [], Option, Some, None, ap, sym, ◌∙◌, arith}
 use Rattle.framehop_backtrace.specs.Code.{bytes_or, longest}
 
 less-one : (n : ℕ) → 0 < n → n ≡ suc (n - 1)

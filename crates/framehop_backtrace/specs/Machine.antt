@@ -1,7 +1,7 @@
 -- What a backtrace needs of an architecture.
 -- (System V ABI for AMD64, figure 3.36; DWARF for the Arm 64-bit Architecture, section 4.1; Linux, `struct
 -- sigcontext`.)
-use Rattle.std.specs.Prelude.{ℕ, Bool, true, ◌&&◌, is_some, List, [], ◌∷◌, ◌++◌, slice_get, Option, Some, None, option_map, unwrap_or}
+use Rattle.std.specs.Prelude.{ℕ, Bool, true, ◌&&◌, is_some, List, [], ◌∷◌, ◌++◌, slice_get, Option, Some, option_map, unwrap_or}
 use Rattle.framehop_core.specs.Memory.{Memory}
 use Rattle.framehop_core.specs.Outcome.{Outcome}
 use Rattle.framehop_core.specs.X86_64.Registers.{Registers as RegistersX86_64, words_of}

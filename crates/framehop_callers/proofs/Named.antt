@@ -1,5 +1,5 @@
 -- Setting the registers that a row names, from the last one on.
-use Rattle.std.proofs.Common.{◌≡◌, ◌≢◌, ℕ, ◌<◌, ◌∷◌, true, false, Bool, List, length, Option, Some, None, refl, ap, sym, ◌∙◌, arith, inl, inr, ◌==◌, ◌≤◌, ◌-◌, ◌+◌}
+use Rattle.std.proofs.Common.{◌≡◌, ◌≢◌, ℕ, ◌<◌, ◌∷◌, false, List, length, Option, refl, ap, sym, ◌∙◌, arith, inl, inr, ◌==◌, ◌≤◌, ◌-◌, ◌+◌}
 use Rattle.std.proofs.lemmas.Bool.{cases_Bool}
 use Rattle.std.proofs.lemmas.Bool.Decides.{nat_tests}
 use Rattle.std.proofs.lemmas.List.{drop_more}

@@ -33,7 +33,7 @@ use Rattle.framehop_callers.specs.declared.known.Write.{Write}
 use Rattle.framehop_callers.specs.declared.state.State.{State}
 use Rattle.framehop_callers.specs.Known.{is_at, stored}
 use Rattle.framehop_callers.specs.Machine.{Machine, base_value, index_value, address_value, IsPlace, IsOperand, IsValue, Sets, IsWrite, AreKept, IsKept}
-use Rattle.framehop_callers.specs.Sound.{Knows, Remembers, Writes, Puts, Pushes, Raises, Leaves, KeepsOthers, Changes, PassesOver, CallsTo, Calls, Links, LinksTo, CallsByLink, Does, DoesThen, DoesAll, DoesAt, DoAt, Steps, way, ReturnsTo}
+use Rattle.framehop_callers.specs.Sound.{Knows, Remembers, Writes, Puts, Pushes, Raises, Leaves, KeepsOthers, Changes, PassesOver, CallsTo, Calls, LinksTo, CallsByLink, Does, DoesThen, DoesAll, DoesAt, DoAt, Steps, way, ReturnsTo}
 use Rattle.framehop_callers.specs.State.{RCX, RBP, RSP, X30, stack_pointer, sum, difference, product, start_of, bytes_of, low, sign_extended, computed, computed_of, base_of, index_of, sum_of, address_of, place_of, number_at, operand_of, value_of, with_bytes, with_writes, with_register, put, pushed, pushed_at, raised_by, word_at, popped, leaving, is_in, forgotten_below, forgotten}
 use Rattle.framehop_callers.specs.declared.run.RunCaller.{RunCaller}
 use Rattle.framehop_callers.specs.Run.{caller_of, onward, run_from}

@@ -1,5 +1,5 @@
 -- Why the stacks of a core file or a minidump are not written.
-use Rattle.std.specs.Prelude.{◌≡◌, ◌⊎◌, ◌<◌, ◌+◌, ◌-◌, ◌^◌, ℕ, ⊤, Bool, true, false, List, [], ◌∷◌, Option, Some, None}
+use Rattle.std.specs.Prelude.{◌≡◌, ◌⊎◌, ◌<◌, ◌+◌, ◌-◌, ◌^◌, ℕ, ⊤, Bool, true, List, [], ◌∷◌, Option, Some, None}
 use Rattle.framehop_processes.specs.Mappings.{changed_modules}
 use Rattle.framehop_processes.specs.declared.mapping.Mapping.{Mapping}
 use Rattle.framehop_processes.specs.Source.{SourceView}

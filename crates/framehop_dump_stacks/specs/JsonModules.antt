@@ -1,5 +1,5 @@
 -- The mappings of code of a process, with what was found in their files, as JSON.
-use Rattle.std.specs.Prelude.{ℕ, List, codes, Option, option_map, option_to_list, is_some, slice_get}
+use Rattle.std.specs.Prelude.{List, codes, Option, option_map, option_to_list, is_some, slice_get}
 use Rattle.std.specs.List.{flat_map}
 use Rattle.serde_json.specs.Data.{Data, boolean, object, member, no_members}
 use Rattle.framehop_processes.specs.declared.mapping.Mapping.{Mapping}

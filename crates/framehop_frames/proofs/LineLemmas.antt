@@ -1,5 +1,5 @@
 -- The labels of frames, by what the frames are and by where they are; the frames before the first that fails a test.
-use Rattle.std.proofs.Common.{◌≡◌, ◌+◌, ◌<◌, ◌∷◌, ◌++◌, List, [], ℕ, Bool, false, map, take, drop, length, get_or, reverse, refl, ap, sym, ◌∙◌, arith}
+use Rattle.std.proofs.Common.{◌≡◌, ◌+◌, ◌<◌, ◌∷◌, List, [], ℕ, Bool, false, map, take, drop, length, get_or, reverse, refl, ap, sym, ◌∙◌, arith}
 use Rattle.std.specs.List.{flat_map, prefix_len, take_while}
 use Rattle.std.proofs.lemmas.List.{at_drop_more, take-map}
 use mathlib.Core.List.{reverse_aux}

@@ -1,6 +1,6 @@
 -- The effect of an instruction is what the machine does by which the analysis of prologues and epilogues is judged. They
 -- share no word: the machine reads fields of a word, an effect comes by the masks of the encodings.
-use Rattle.std.specs.Prelude.{◌≡◌, ◌⊎◌, ℕ, ℤ, pos, ◌+ℤ◌, Bool, true, List, Option, Some}
+use Rattle.std.specs.Prelude.{◌≡◌, ◌⊎◌, ℕ, ℤ, pos, ◌+ℤ◌, true, List, Option, Some}
 use Rattle.framehop_core.specs.AddSigned.{fitting}
 use Rattle.framehop_analysis.specs.Aarch64.Machine as machine
 use Rattle.framehop_code.specs.declared.effect.Base.TheVariants.{Sp}

@@ -1,7 +1,7 @@
 -- What an instruction does to general registers and to memory, and where it leads, by its parts (Intel 64 and IA-32
 -- Architectures Software Developer's Manual, volume 2, "Instruction Set Reference", and appendix A.4, "Opcode
 -- extensions").
-use Rattle.std.specs.Prelude.{ℕ, ◌/◌, ◌%◌, ◌^◌, Bool, true, false, not, ◌==◌, ◌&&◌, ◌||◌, nat_le, nat_lt, if◌then◌else◌, bit_or, List, [], ◌∷◌, length, take, drop, Option, Some, None, Result, Ok, Err}
+use Rattle.std.specs.Prelude.{ℕ, ◌/◌, ◌%◌, Bool, true, false, not, ◌==◌, ◌&&◌, ◌||◌, nat_le, if◌then◌else◌, bit_or, List, [], ◌∷◌, length, take, drop, Option, Some, None, Result, Ok, Err}
 use Rattle.std.specs.List.{list_any}
 use Rattle.framehop_bytes.specs.ByCode.{by_code, by_test}
 use Rattle.framehop_cfi.specs.declared.rule.Register.{Register}

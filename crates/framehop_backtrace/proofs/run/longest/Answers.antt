@@ -1,4 +1,4 @@
-use Rattle.std.proofs.Common.{◌≡◌, arith}
+use Rattle.std.proofs.Common.{arith}
 use Rattle.framehop_backtrace.proofs.RunLemmas.{found, missed, none-left}
 use Rattle.framehop_backtrace.proofs.run.longest.Goals as goal
 

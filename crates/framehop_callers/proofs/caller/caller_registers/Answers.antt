@@ -1,4 +1,4 @@
-use Rattle.std.proofs.Common.{◌≡◌, arith, ap, ◌∙◌, ℕ, Option, List, length}
+use Rattle.std.proofs.Common.{◌≡◌, arith, ap, ◌∙◌, ℕ, Option, length}
 use Rattle.std.proofs.lemmas.List.{drop_all}
 use Rattle.framehop_callers.specs.Caller.{HasColumns}
 use Rattle.framehop_callers.specs.Convention.{program_counter_of, return_address_of}

@@ -1,4 +1,4 @@
-use Rattle.std.proofs.Common.{◌≡◌, arith, ap, ◌∙◌, ℕ, Option, length}
+use Rattle.std.proofs.Common.{arith, ap, ◌∙◌, ℕ, Option, length}
 use Rattle.framehop_callers.specs.Rules.{by_convention}
 use Rattle.framehop_callers.specs.RegisterFile.{word_of}
 use Rattle.framehop_callers.proofs.Columns.{one_more, keeps-length}

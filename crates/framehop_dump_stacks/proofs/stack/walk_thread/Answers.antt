@@ -1,4 +1,4 @@
-use Rattle.std.proofs.Common.{◌∙◌, sym, rules, Some, None, ap}
+use Rattle.std.proofs.Common.{◌∙◌, sym, rules, Some, ap}
 use Rattle.std.specs.Prelude.{option_map}
 use Rattle.framehop_core.specs.CodeAddress.{FrameLocation}
 use Rattle.framehop.specs.Modules.{UnwinderView}

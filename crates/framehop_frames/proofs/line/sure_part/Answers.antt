@@ -1,4 +1,4 @@
-use Rattle.std.proofs.Common.{◌≡◌, sym, ◌∙◌, ap, take, map, arith, rules, length, ◌<◌}
+use Rattle.std.proofs.Common.{◌∙◌, ap, take, map, arith, rules, length, ◌<◌}
 use Rattle.framehop_frames.specs.Line.{is_sure}
 use Rattle.framehop_frames.specs.Stack.{shown_frame}
 use Rattle.framehop_frames.proofs.LineLemmas.{cut-at}

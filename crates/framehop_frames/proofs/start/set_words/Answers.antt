@@ -1,4 +1,4 @@
-use Rattle.std.proofs.Common.{◌≡◌, ℕ, ◌*◌, Some, sym, ◌∙◌, ap, arith, subst}
+use Rattle.std.proofs.Common.{◌≡◌, ℕ, ◌*◌, sym, ◌∙◌, ap, arith, subst}
 use Rattle.framehop_bytes.specs.Bytes.{le8}
 use Rattle.framehop_frames.specs.Start.{with_words}
 use Rattle.framehop_frames.proofs.StartLemmas.{one_word, no_word}

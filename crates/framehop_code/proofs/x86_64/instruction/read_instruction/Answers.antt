@@ -1,6 +1,5 @@
-use Rattle.std.proofs.Common.{rules, ◌≡◌, ◌+◌, ◌<◌, ◌≤◌, List, take, drop, length, ℕ, Option, Some, None, subst, sym}
-use Rattle.framehop_code.specs.declared.effect.Effect.{Effect}
-use Rattle.framehop_code.specs.X86_64.Instruction.{parts_at, instruction_at}
+use Rattle.std.proofs.Common.{rules, subst, sym}
+use Rattle.framehop_code.specs.X86_64.Instruction.{instruction_at}
 use Rattle.framehop_code.specs.X86_64.Machine.{IsAsMachine}
 use Rattle.framehop_code.proofs.MachineX86_64.{as-machine}
 use Rattle.framehop_code.proofs.x86_64.instruction.read_instruction.Goals as goal

@@ -1,4 +1,4 @@
-use Rattle.std.proofs.Common.{◌≡◌, ◌∙◌, ◌++◌, ap, rules}
+use Rattle.std.proofs.Common.{◌∙◌, ap, rules}
 use Rattle.serde_json.specs.Written.{compact_text, has_float}
 use Rattle.framehop_dumps.specs.Dump.{thread_view}
 use Rattle.framehop_frames.specs.Stack.{option_stack_view}
