@@ -14,6 +14,7 @@ The status is 1 if a frame by [cfi] or [code] was wrong.
     --root DIR    the folder that qemu takes for /, with the program's libraries (qemu's -L); else the variable QEMU_LD_PREFIX
     --covered     stops also at instructions that an FDE covers
     --file TEXT   stops only in files that have TEXT in their paths
+    --section S   stops only in sections of this name, as .text
     --seed N      another choice of instructions
     --keep FILE   the recording is kept as FILE, and what the processor did as FILE.stops
     --again FILE  judges by what was kept; STOPS and PROGRAM are left out
@@ -293,6 +294,12 @@ class Code:
         return None
 
 
+def is_asked_for(file, stated, arguments):
+    if arguments.file not in file.path or arguments.section not in (None, file.section(stated)):
+        return False
+    return arguments.covered or not file.covered(stated)
+
+
 def executed(folder, arguments, known):
     """The instructions of the program's files that are executed, as pairs of a file and an address that it states."""
     log = os.path.join(folder, "log")
@@ -303,8 +310,7 @@ def executed(folder, arguments, known):
     with open(log, "rb") as text:
         text.seek(before)
         addresses = {int(found[1], 16) for line in text if (found := re.match(rb"0x([0-9a-f]+): ", line))}
-    places = [files.place(address) for address in sorted(addresses)]
-    return [(file, stated) for file, stated in places if file and (arguments.covered or not file.covered(stated)) and arguments.file in file.path]
+    return [place for place in map(files.place, sorted(addresses)) if place[0] and is_asked_for(*place, arguments)]
 
 
 def stops_of_run(machine, files, places, waiting, wanted):
@@ -393,6 +399,7 @@ def main():
     parser.add_argument("--root", default=os.environ.get("QEMU_LD_PREFIX", "/"))
     parser.add_argument("--covered", action="store_true")
     parser.add_argument("--file", default="")
+    parser.add_argument("--section")
     parser.add_argument("--seed", type=int, default=1)
     parser.add_argument("--keep")
     parser.add_argument("--again")
