@@ -299,91 +299,198 @@ typedef size_t (*framehop_read_words)(void *data, uint64_t address, uint64_t *wo
 #define FRAMEHOP_WORDS_A_READ 256
 #define FRAMEHOP_WORDS_KEPT 320
 
-/* What a callback has read. */
+/* How many frame records are read ahead, at most, that of the frame itself with them. */
+#define FRAMEHOP_RECORDS_A_RUN 16
+
+/* What a callback has read, how often it was asked for words of the frame, whether it has read one word only the last time, and
+ * how many frame records the next run may have. */
 typedef struct {
-    framehop_window windows[FRAMEHOP_READS_A_FRAME];
+    framehop_window windows[FRAMEHOP_READS_A_FRAME + FRAMEHOP_RECORDS_A_RUN];
     uint64_t words[FRAMEHOP_WORDS_KEPT];
-    size_t window_count, word_count;
+    size_t window_count, word_count, read_count, run;
+    bool is_by_word;
 } framehop_words_read;
 
-/* Reads words from an AVMA upwards, or returns false where there is no room for a further window. Of the room for words
- * one each is left for the windows that may follow. */
+/* Reads words from an AVMA upwards, or returns false where the frame has asked often enough. Of the room for words one each is
+ * left for the windows that may follow. */
 static inline bool framehop_read_more(framehop_words_read *known, framehop_read_words read, void *data, uint64_t address)
 {
-    size_t windows_left = FRAMEHOP_READS_A_FRAME - known->window_count, room;
+    size_t reads_left = FRAMEHOP_READS_A_FRAME - known->read_count, room;
     framehop_window *window = &known->windows[known->window_count];
-    if (windows_left == 0)
+    if (reads_left == 0)
         return false;
-    room = FRAMEHOP_WORDS_KEPT - known->word_count - (windows_left - 1);
+    room = FRAMEHOP_WORDS_KEPT - known->word_count - (reads_left - 1);
     if (room > FRAMEHOP_WORDS_A_READ)
         room = FRAMEHOP_WORDS_A_READ;
     window->base = address;
     window->words = &known->words[known->word_count];
     window->word_count = read(data, address, &known->words[known->word_count], room);
+    known->is_by_word = window->word_count == 1;
     known->word_count += window->word_count;
     known->window_count++;
+    known->read_count++;
     return true;
 }
 
-/* Walks with a callback: the call above, again while it asks for a word that was not read. A word is not asked for twice
- * while a frame is unwound. Where a frame asks for words more often than FRAMEHOP_READS_A_FRAME times, the walk ends with
- * FRAMEHOP_COULD_NOT_READ_STACK. */
+/* Reads the frame records to which one leads, the two words that are known: up to the run's length, and no more than there
+ * may be frames. A record has its caller's frame pointer, and above it the return address. */
+static inline void framehop_read_records(framehop_words_read *known, framehop_read_words read, void *data, size_t frames_left)
+{
+    size_t limit = known->run < frames_left ? known->run : frames_left, i;
+    known->windows[0].word_count = 2;
+    for (i = 1; i < limit; i++) {
+        uint64_t *words = &known->words[2 * i], below = known->windows[i - 1].base, base = words[-2];
+        size_t count;
+        if (words[-1] == 0 || base < below || base - below < 16 || base > UINT64_MAX - 16)
+            break;
+        count = read(data, base, words, 2);
+        if (count == 1)
+            count += read(data, base + 8, words + 1, 1);
+        if (count < 2)
+            break;
+        known->windows[i].base = base;
+        known->windows[i].words = words;
+        known->windows[i].word_count = 2;
+    }
+    known->window_count = i;
+    known->word_count = 2 * i;
+    known->is_by_word = false;
+}
+
+/* Reads the words that a step asks for, the lower one first where the second lies next below the first; or returns false
+ * where there is no room for them. Where they are the frame record at the frame pointer, and each takes a call of the callback,
+ * the records to which it leads are read, too. */
+static inline bool framehop_read_asked(framehop_words_read *known, framehop_read_words read, void *data,
+    const framehop_ahead *asked, uint64_t frame_pointer, size_t frames_left)
+{
+    bool is_below = asked->count == 2 && asked->first - asked->second == 8;
+    size_t count;
+    if (!framehop_read_more(known, read, data, is_below ? asked->second : asked->first))
+        return false;
+    count = known->windows[known->window_count - 1].word_count;
+    if (asked->count < 2 || count > 1 || (count == 0 && !is_below))
+        return true;
+    if (!framehop_read_more(known, read, data, is_below ? asked->first : asked->second))
+        return false;
+    if (is_below && asked->second == frame_pointer && known->is_by_word && known->word_count == 2)
+        framehop_read_records(known, read, data, frames_left);
+    return true;
+}
+
+/* Lets go of what was read for the frames that a call has found. The next run may be longer where each record was a frame's. */
+static inline void framehop_forget_words(framehop_words_read *known, size_t frame_count)
+{
+    if (frame_count < known->window_count)
+        known->run = 1;
+    else if (known->run < FRAMEHOP_RECORDS_A_RUN)
+        known->run *= 2;
+    known->window_count = known->word_count = known->read_count = 0;
+}
+
+/* Walks with a callback: the calls above, again while they ask for a word that was not read. A word is not asked for twice
+ * while a frame is unwound. A step asks for the return address first, and in a frame record the frame pointer is in the word
+ * below it, so the words of a frame with one at its frame pointer are read from there on. Where a frame asks for words more often than FRAMEHOP_READS_A_FRAME
+ * times, the walk ends with FRAMEHOP_COULD_NOT_READ_STACK.
+ *
+ * A callback that reads one word, however many it may read, is asked for the words that a step needs. Of a frame with a frame
+ * record at its frame pointer the records of its callers are read ahead, in runs of 1, 2, 4, 8 and then 16, by the frame
+ * pointers in them: so the callback may be asked for such words that no step needs, and the walk does not depend on them. */
 static inline int32_t framehop_unwinder_x86_64_walk_with(framehop_handle *unwinder, framehop_handle *cache, uint64_t pc,
     framehop_registers_x86_64 *registers, framehop_read_words read, void *data, uint64_t *frames, size_t frame_capacity,
     framehop_walk *walk)
 {
     framehop_words_read known;
+    framehop_next next;
     size_t count = 1;
-    known.window_count = known.word_count = 0;
+    known.window_count = known.word_count = known.read_count = 0;
+    known.run = 1;
+    known.is_by_word = false;
     if (frame_capacity == 0)
         return framehop_unwinder_x86_64_walk_on(unwinder, cache, pc, false, registers, NULL, 0, NULL, 0, walk);
     for (;;) {
-        int32_t status = framehop_unwinder_x86_64_walk_on(unwinder, cache, count > 1 ? frames[count - 1] : pc, count > 1,
-            registers, known.windows, known.window_count, frames + count, frame_capacity - count, walk);
-        if (status == FRAMEHOP_WRONG_HANDLE)
-            return status;
+        const uint64_t from = count > 1 ? frames[count - 1] : pc;
+        int32_t status;
+        if (known.is_by_word && count < frame_capacity) {
+            status = framehop_unwinder_x86_64_next_frame(unwinder, cache, from, count > 1, registers, known.windows,
+                known.window_count, &next);
+            walk->frame_count = status == FRAMEHOP_OK;
+            walk->unreadable = next.unreadable;
+            if (status == FRAMEHOP_OK)
+                frames[count] = next.return_address;
+        } else {
+            status = framehop_unwinder_x86_64_walk_on(unwinder, cache, from, count > 1, registers, known.windows,
+                known.window_count, frames + count, frame_capacity - count, walk);
+            if (status == FRAMEHOP_WRONG_HANDLE)
+                return status;
+        }
         frames[0] = pc;
         if (walk->frame_count > 0)
-            known.window_count = known.word_count = 0;
+            framehop_forget_words(&known, walk->frame_count);
         count += walk->frame_count;
         walk->frame_count = count;
-        if (status != FRAMEHOP_MISSING_WORD)
+        if (status == FRAMEHOP_MISSING_WORD) {
+            next.ahead.first = walk->unreadable;
+            next.ahead.second = walk->unreadable - 8;
+            next.ahead.count = known.window_count == 0 && next.ahead.second == registers->rbp ? 2 : 1;
+        } else if (status != FRAMEHOP_OK) {
             return status;
-        if (!framehop_read_more(&known, read, data, walk->unreadable))
+        }
+        if (next.ahead.count > 0 && count < frame_capacity
+            && !framehop_read_asked(&known, read, data, &next.ahead, registers->rbp, frame_capacity - count))
             return FRAMEHOP_COULD_NOT_READ_STACK;
     }
 }
 
-/* Walks with a callback: the call above, again while it asks for a word that was not read. A word is not asked for twice
+/* Walks with a callback: the calls above, again while they ask for a word that was not read. A word is not asked for twice
  * while a frame is unwound. A step asks for the return address first, and in a frame record the frame pointer is in the word
  * below it, so a frame's words are read from there on. Where a frame asks for words more often than FRAMEHOP_READS_A_FRAME
- * times, the walk ends with FRAMEHOP_COULD_NOT_READ_STACK. */
+ * times, the walk ends with FRAMEHOP_COULD_NOT_READ_STACK.
+ *
+ * A callback that reads one word, however many it may read, is asked for the words that a step needs. Of a frame with a frame
+ * record at its frame pointer the records of its callers are read ahead, in runs of 1, 2, 4, 8 and then 16, by the frame
+ * pointers in them: so the callback may be asked for such words that no step needs, and the walk does not depend on them. */
 static inline int32_t framehop_unwinder_aarch64_walk_with(framehop_handle *unwinder, framehop_handle *cache, uint64_t pc,
     framehop_registers_aarch64 *registers, framehop_read_words read, void *data, uint64_t *frames, size_t frame_capacity,
     framehop_walk *walk)
 {
     framehop_words_read known;
-    uint64_t from;
+    framehop_next next;
     size_t count = 1;
-    known.window_count = known.word_count = 0;
+    known.window_count = known.word_count = known.read_count = 0;
+    known.run = 1;
+    known.is_by_word = false;
     if (frame_capacity == 0)
         return framehop_unwinder_aarch64_walk_on(unwinder, cache, pc, false, registers, NULL, 0, NULL, 0, walk);
     for (;;) {
-        int32_t status = framehop_unwinder_aarch64_walk_on(unwinder, cache, count > 1 ? frames[count - 1] : pc, count > 1,
-            registers, known.windows, known.window_count, frames + count, frame_capacity - count, walk);
-        if (status == FRAMEHOP_WRONG_HANDLE)
-            return status;
+        const uint64_t from = count > 1 ? frames[count - 1] : pc;
+        int32_t status;
+        if (known.is_by_word && count < frame_capacity) {
+            status = framehop_unwinder_aarch64_next_frame(unwinder, cache, from, count > 1, registers, known.windows,
+                known.window_count, &next);
+            walk->frame_count = status == FRAMEHOP_OK;
+            walk->unreadable = next.unreadable;
+            if (status == FRAMEHOP_OK)
+                frames[count] = next.return_address;
+        } else {
+            status = framehop_unwinder_aarch64_walk_on(unwinder, cache, from, count > 1, registers, known.windows,
+                known.window_count, frames + count, frame_capacity - count, walk);
+            if (status == FRAMEHOP_WRONG_HANDLE)
+                return status;
+        }
         frames[0] = pc;
         if (walk->frame_count > 0)
-            known.window_count = known.word_count = 0;
+            framehop_forget_words(&known, walk->frame_count);
         count += walk->frame_count;
         walk->frame_count = count;
-        if (status != FRAMEHOP_MISSING_WORD)
+        if (status == FRAMEHOP_MISSING_WORD) {
+            next.ahead.first = walk->unreadable;
+            next.ahead.second = walk->unreadable - 8;
+            next.ahead.count = known.window_count == 0 && walk->unreadable >= 8 && next.ahead.second >= registers->sp ? 2 : 1;
+        } else if (status != FRAMEHOP_OK) {
             return status;
-        from = walk->unreadable;
-        if (known.window_count == 0 && from >= 8 && from - 8 >= registers->sp)
-            from -= 8;
-        if (!framehop_read_more(&known, read, data, from))
+        }
+        if (next.ahead.count > 0 && count < frame_capacity
+            && !framehop_read_asked(&known, read, data, &next.ahead, registers->fp, frame_capacity - count))
             return FRAMEHOP_COULD_NOT_READ_STACK;
     }
 }
