@@ -16,7 +16,7 @@
 static framehop_handle generations, unwinders[UNWINDERS], caches[UNWINDERS];
 static size_t unwinder_count, cache_count, modules_bytes;
 static bool by_callback, by_chunks, by_frames;
-static size_t times, frame_calls, frame_count;
+static size_t times, frame_calls, frame_count, reads;
 static uint8_t *kept[200000];
 
 static const char *text(void)
@@ -82,6 +82,7 @@ static size_t read_words(void *data, uint64_t at, uint64_t *words, size_t capaci
 {
     const struct memory *memory = (const struct memory *)data;
     size_t first = (at - memory->base) / 8, count = by_chunks ? capacity : 1;
+    reads++;
     if (at < memory->base || (at - memory->base) % 8 || first >= memory->count)
         return 0;
     if (count > memory->count - first)
@@ -380,6 +381,7 @@ static double nanoseconds(void)
             by_callback = way > 0;                                                                                    \
             by_frames = way == 3;                                                                                     \
             by_chunks = way == 1;                                                                                     \
+            reads = 0;                                                                                                \
             for (i = 0; i < times; i++) {                                                                             \
                 framehop_registers_##arch registers = *start;                                                         \
                 framehop_walk walk;                                                                                   \
@@ -387,6 +389,8 @@ static double nanoseconds(void)
                 count += walk.frame_count;                                                                            \
             }                                                                                                         \
             fprintf(stderr, "C, %s: %.2f ns/frame\n", ways[way], (nanoseconds() - before) / (double)count);           \
+            if (way == 2)                                                                                             \
+                fprintf(stderr, "C, words a frame: %.2f\n", (double)reads / (double)count);                           \
         }                                                                                                             \
         fprintf(stderr, "C, calls a frame: %.2f\n", (double)frame_calls / (double)frame_count);                       \
         by_callback = by_chunks = by_frames = false;                                                                  \

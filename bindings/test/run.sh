@@ -69,13 +69,19 @@ python3 "$here/cases.py" c callback "$work/cases"
 python3 "$here/cases.py" c chunks "$work/cases"
 python3 "$here/cases.py" c frames "$work/cases"
 
+# random stacks of frame records
+build -fsanitize=address,undefined -fno-sanitize-recover=undefined "$here/random_walks.c" $archives -o "$work/random_walks"
+"$work/random_walks" 20000
+
 # a frame takes one call of next_frame, but for the first ones, each of which takes one more for each of its words
 for arch in x86_64 aarch64; do
     python3 "$top/bench/make_inputs.py" frame-pointers $arch > "$work/frames.json"
     python3 "$here/cases.py" words "$work/frames.json" may > "$work/words"
-    "$work/cases" time 20 < "$work/words" 2>&1 > "$work/frames" | grep -qx 'C, calls a frame: 1.0[01]' || { echo "next_frame: more calls"; exit 1; }
+    "$work/cases" time 20 < "$work/words" 2> "$work/calls" > "$work/frames"
+    grep -qx 'C, calls a frame: 1.0[01]' "$work/calls" || { echo "next_frame: more calls"; exit 1; }
+    grep -qx 'C, words a frame: 2.00' "$work/calls" || { echo "walk_with: more words than a frame record's"; exit 1; }
 done
-echo "next_frame: one call a frame"
+echo "next_frame: one call a frame; walk_with: two words a frame"
 
 # a profiler of its own threads, beside libunwind
 profiler() { clang -std=gnu11 -Wall -Wextra -Werror -O1 -gdwarf-4 -rdynamic -I"$top/bindings/include" "$top/bindings/examples/profiler.c" $archives "$@"; }
