@@ -99,7 +99,7 @@ PLANTS = [
     ("C: the return address is read in the place of the frame pointer", HEADER, "is_below ? asked->second : asked->first)", "asked->first)"),
     ("C: a record has its words exchanged", HEADER, "known->windows[i].base = base;", "known->windows[i].base = base - 8;"),
     ("C: a record of one word is lent", HEADER, "        if (count < 2)\n            break;\n", "        if (count < 1)\n            break;\n"),
-    ("C: the records of a run have one place", HEADER, "*words = &known->words[2 * i], below", "*words = &known->words[2], below"),
+    ("C: a record lends the words of the first one", HEADER, "known->windows[i].words = words;", "known->windows[i].words = known->words;"),
     ("C: unreadable words have a window with a word", HEADER, "    known->word_count += window->word_count;\n",
      "    window->word_count += !window->word_count;\n    known->word_count += window->word_count;\n"),
     ("C: a window lends the words of another one", HEADER, "window->words = &known->words[known->word_count];", "window->words = known->words;"),
@@ -138,6 +138,8 @@ def checks(top, target):
     yield ["clang", "-fsanitize=address", "-I", top / "bindings/include", here / "cases.c", *archives, "-o", program]
     for mode in ("callback", "chunks"):
         yield ["python3", here / "cases.py", "c", mode, program]
+    yield ["clang", "-fsanitize=address", "-I", top / "bindings/include", here / "random_walks.c", *archives, "-o", target / "random_walks"]
+    yield [target / "random_walks", "2000"]
     yield ["cargo", "test", "--offline", "--quiet"]
     yield ["cargo", "build", "--offline", "--quiet", "--example", "cases"]
     for mode in ("callback", "chunks", "window"):
