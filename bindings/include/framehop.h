@@ -302,17 +302,17 @@ typedef size_t (*framehop_read_words)(void *data, uint64_t address, uint64_t *wo
 /* How many frame records are read ahead, at most, that of the frame itself with them. */
 #define FRAMEHOP_RECORDS_A_RUN 16
 
-/* What a callback has read, how often it was asked for words of the frame, whether it has read one word only the last time, and
- * how many frame records the next run may have. */
+/* What a callback has read, how often it was asked for words of the frame, how many frame records the next run may have,
+ * whether the last call of the callback has read one word, and whether the windows are a run of frame records. */
 typedef struct {
     framehop_window windows[FRAMEHOP_READS_A_FRAME + FRAMEHOP_RECORDS_A_RUN];
     uint64_t words[FRAMEHOP_WORDS_KEPT];
     size_t window_count, word_count, read_count, run;
-    bool is_by_word;
+    bool is_by_word, is_run;
 } framehop_words_read;
 
-/* Reads words from an AVMA upwards, or returns false where the frame has asked often enough. Of the room for words one each is
- * left for the windows that may follow. */
+/* Reads words from an AVMA upwards, or returns false where the frame has asked often enough. Of the room for words one each
+ * is left for the windows that may follow. */
 static inline bool framehop_read_more(framehop_words_read *known, framehop_read_words read, void *data, uint64_t address)
 {
     size_t reads_left = FRAMEHOP_READS_A_FRAME - known->read_count, room;
@@ -326,6 +326,7 @@ static inline bool framehop_read_more(framehop_words_read *known, framehop_read_
     window->words = &known->words[known->word_count];
     window->word_count = read(data, address, &known->words[known->word_count], room);
     known->is_by_word = window->word_count == 1;
+    known->is_run = false;
     known->word_count += window->word_count;
     known->window_count++;
     known->read_count++;
@@ -333,8 +334,9 @@ static inline bool framehop_read_more(framehop_words_read *known, framehop_read_
 }
 
 /* Reads the frame records to which one leads, the two words that are known: up to the run's length, and no more than there
- * may be frames. A record has its caller's frame pointer, and above it the return address. */
-static inline void framehop_read_records(framehop_words_read *known, framehop_read_words read, void *data, size_t frames_left)
+ * may be frames. A record has the caller's frame pointer, and above it the return address. */
+static inline void framehop_read_records(framehop_words_read *known, framehop_read_words read, void *data,
+    size_t frames_left)
 {
     size_t limit = known->run < frames_left ? known->run : frames_left, i;
     known->windows[0].word_count = 2;
@@ -355,29 +357,31 @@ static inline void framehop_read_records(framehop_words_read *known, framehop_re
     known->window_count = i;
     known->word_count = 2 * i;
     known->is_by_word = false;
+    known->is_run = true;
 }
 
-/* Reads the words that a step asks for, the lower one first where the second lies next below the first; or returns false
- * where there is no room for them. Where they are the frame record at the frame pointer, and each takes a call of the callback,
- * the records to which it leads are read, too. */
+/* Reads the words that a step asks for, or returns false where the frame has asked often enough. A second word that lies
+ * next below the first one is read before it. Where both are the frame record at the frame pointer, and each takes a call of
+ * the callback, the records to which it leads are read, too. */
 static inline bool framehop_read_asked(framehop_words_read *known, framehop_read_words read, void *data,
     const framehop_ahead *asked, uint64_t frame_pointer, size_t frames_left)
 {
     bool is_below = asked->count == 2 && asked->first - asked->second == 8;
+    uint64_t base = is_below ? asked->second : asked->first, other = is_below ? asked->first : asked->second;
     size_t count;
-    if (!framehop_read_more(known, read, data, is_below ? asked->second : asked->first))
+    if (!framehop_read_more(known, read, data, base))
         return false;
     count = known->windows[known->window_count - 1].word_count;
     if (asked->count < 2 || count > 1 || (count == 0 && !is_below))
         return true;
-    if (!framehop_read_more(known, read, data, is_below ? asked->first : asked->second))
+    if (!framehop_read_more(known, read, data, other))
         return false;
-    if (is_below && asked->second == frame_pointer && known->is_by_word && known->word_count == 2)
+    if (base == frame_pointer && other - base == 8 && known->is_by_word && known->word_count == 2)
         framehop_read_records(known, read, data, frames_left);
     return true;
 }
 
-/* Lets go of what was read for the frames that a call has found. The next run may be longer where each record was a frame's. */
+/* Lets go of what was read, once a call has found frames. The next run may be longer where each record was a frame's. */
 static inline void framehop_forget_words(framehop_words_read *known, size_t frame_count)
 {
     if (frame_count < known->window_count)
@@ -385,16 +389,16 @@ static inline void framehop_forget_words(framehop_words_read *known, size_t fram
     else if (known->run < FRAMEHOP_RECORDS_A_RUN)
         known->run *= 2;
     known->window_count = known->word_count = known->read_count = 0;
+    known->is_run = false;
 }
 
 /* Walks with a callback: the calls above, again while they ask for a word that was not read. A word is not asked for twice
- * while a frame is unwound. A step asks for the return address first, and in a frame record the frame pointer is in the word
- * below it, so the words of a frame with one at its frame pointer are read from there on. Where a frame asks for words more often than FRAMEHOP_READS_A_FRAME
- * times, the walk ends with FRAMEHOP_COULD_NOT_READ_STACK.
+ * while a frame is unwound. Where a frame asks for words more often than FRAMEHOP_READS_A_FRAME times, the walk ends with
+ * FRAMEHOP_COULD_NOT_READ_STACK.
  *
- * A callback that reads one word, however many it may read, is asked for the words that a step needs. Of a frame with a frame
- * record at its frame pointer the records of its callers are read ahead, in runs of 1, 2, 4, 8 and then 16, by the frame
- * pointers in them: so the callback may be asked for such words that no step needs, and the walk does not depend on them. */
+ * By a callback that reads a word a call, where it may read more, the frame record at a frame's frame pointer is read as a
+ * whole, and the callers' to which it leads are read ahead, in runs of 1, 2, 4, 8 and then 16 frames. So it may be asked for
+ * words of frame records that no step needs; what the walk finds is the same. */
 static inline int32_t framehop_unwinder_x86_64_walk_with(framehop_handle *unwinder, framehop_handle *cache, uint64_t pc,
     framehop_registers_x86_64 *registers, framehop_read_words read, void *data, uint64_t *frames, size_t frame_capacity,
     framehop_walk *walk)
@@ -404,13 +408,14 @@ static inline int32_t framehop_unwinder_x86_64_walk_with(framehop_handle *unwind
     size_t count = 1;
     known.window_count = known.word_count = known.read_count = 0;
     known.run = 1;
-    known.is_by_word = false;
+    known.is_by_word = known.is_run = false;
     if (frame_capacity == 0)
         return framehop_unwinder_x86_64_walk_on(unwinder, cache, pc, false, registers, NULL, 0, NULL, 0, walk);
     for (;;) {
         const uint64_t from = count > 1 ? frames[count - 1] : pc;
+        const size_t left = frame_capacity - count;
         int32_t status;
-        if (known.is_by_word && count < frame_capacity) {
+        if (known.is_by_word && left > 0) {
             status = framehop_unwinder_x86_64_next_frame(unwinder, cache, from, count > 1, registers, known.windows,
                 known.window_count, &next);
             walk->frame_count = status == FRAMEHOP_OK;
@@ -418,8 +423,9 @@ static inline int32_t framehop_unwinder_x86_64_walk_with(framehop_handle *unwind
             if (status == FRAMEHOP_OK)
                 frames[count] = next.return_address;
         } else {
+            const size_t most = known.is_run && known.window_count < left ? known.window_count : left;
             status = framehop_unwinder_x86_64_walk_on(unwinder, cache, from, count > 1, registers, known.windows,
-                known.window_count, frames + count, frame_capacity - count, walk);
+                known.window_count, frames + count, most, walk);
             if (status == FRAMEHOP_WRONG_HANDLE)
                 return status;
         }
@@ -430,8 +436,12 @@ static inline int32_t framehop_unwinder_x86_64_walk_with(framehop_handle *unwind
         walk->frame_count = count;
         if (status == FRAMEHOP_MISSING_WORD) {
             next.ahead.first = walk->unreadable;
-            next.ahead.second = walk->unreadable - 8;
-            next.ahead.count = known.window_count == 0 && next.ahead.second == registers->rbp ? 2 : 1;
+            next.ahead.second = walk->unreadable + 8;
+            next.ahead.count = 1;
+            if (known.window_count == 0 && walk->unreadable == registers->rbp)
+                next.ahead.count = 2;
+        } else if (status == FRAMEHOP_FRAMES_FULL && count < frame_capacity) {
+            continue;
         } else if (status != FRAMEHOP_OK) {
             return status;
         }
@@ -446,9 +456,9 @@ static inline int32_t framehop_unwinder_x86_64_walk_with(framehop_handle *unwind
  * below it, so a frame's words are read from there on. Where a frame asks for words more often than FRAMEHOP_READS_A_FRAME
  * times, the walk ends with FRAMEHOP_COULD_NOT_READ_STACK.
  *
- * A callback that reads one word, however many it may read, is asked for the words that a step needs. Of a frame with a frame
- * record at its frame pointer the records of its callers are read ahead, in runs of 1, 2, 4, 8 and then 16, by the frame
- * pointers in them: so the callback may be asked for such words that no step needs, and the walk does not depend on them. */
+ * By a callback that reads a word a call, where it may read more, the frame record at a frame's frame pointer is read as a
+ * whole, and the callers' to which it leads are read ahead, in runs of 1, 2, 4, 8 and then 16 frames. So it may be asked for
+ * words of frame records that no step needs; what the walk finds is the same. */
 static inline int32_t framehop_unwinder_aarch64_walk_with(framehop_handle *unwinder, framehop_handle *cache, uint64_t pc,
     framehop_registers_aarch64 *registers, framehop_read_words read, void *data, uint64_t *frames, size_t frame_capacity,
     framehop_walk *walk)
@@ -458,13 +468,14 @@ static inline int32_t framehop_unwinder_aarch64_walk_with(framehop_handle *unwin
     size_t count = 1;
     known.window_count = known.word_count = known.read_count = 0;
     known.run = 1;
-    known.is_by_word = false;
+    known.is_by_word = known.is_run = false;
     if (frame_capacity == 0)
         return framehop_unwinder_aarch64_walk_on(unwinder, cache, pc, false, registers, NULL, 0, NULL, 0, walk);
     for (;;) {
         const uint64_t from = count > 1 ? frames[count - 1] : pc;
+        const size_t left = frame_capacity - count;
         int32_t status;
-        if (known.is_by_word && count < frame_capacity) {
+        if (known.is_by_word && left > 0) {
             status = framehop_unwinder_aarch64_next_frame(unwinder, cache, from, count > 1, registers, known.windows,
                 known.window_count, &next);
             walk->frame_count = status == FRAMEHOP_OK;
@@ -472,8 +483,9 @@ static inline int32_t framehop_unwinder_aarch64_walk_with(framehop_handle *unwin
             if (status == FRAMEHOP_OK)
                 frames[count] = next.return_address;
         } else {
+            const size_t most = known.is_run && known.window_count < left ? known.window_count : left;
             status = framehop_unwinder_aarch64_walk_on(unwinder, cache, from, count > 1, registers, known.windows,
-                known.window_count, frames + count, frame_capacity - count, walk);
+                known.window_count, frames + count, most, walk);
             if (status == FRAMEHOP_WRONG_HANDLE)
                 return status;
         }
@@ -485,7 +497,11 @@ static inline int32_t framehop_unwinder_aarch64_walk_with(framehop_handle *unwin
         if (status == FRAMEHOP_MISSING_WORD) {
             next.ahead.first = walk->unreadable;
             next.ahead.second = walk->unreadable - 8;
-            next.ahead.count = known.window_count == 0 && walk->unreadable >= 8 && next.ahead.second >= registers->sp ? 2 : 1;
+            next.ahead.count = 1;
+            if (known.window_count == 0 && walk->unreadable >= 8 && next.ahead.second >= registers->sp)
+                next.ahead.count = 2;
+        } else if (status == FRAMEHOP_FRAMES_FULL && count < frame_capacity) {
+            continue;
         } else if (status != FRAMEHOP_OK) {
             return status;
         }
