@@ -96,7 +96,6 @@ PLANTS = [
     ("C: a step has another return address", HEADER, "frames[count] = next.return_address;", "frames[count] = next.return_address + 1;"),
     ("C: a step has no word that can't be read", HEADER, "walk->unreadable = next.unreadable;", "walk->unreadable = 0;"),
     ("C: a step that finds no frame counts", HEADER, "walk->frame_count = status == FRAMEHOP_OK;", "walk->frame_count = 1;"),
-    ("C: a word is lent at the address of the one above", HEADER, "base = is_below ? asked->second : asked->first,", "base = asked->first,"),
     ("C: a record has its words exchanged", HEADER, "known->windows[i].base = base;", "known->windows[i].base = base - 8;"),
     ("C: a record of one word is lent", HEADER, "        if (count < 2)\n            break;\n", "        if (count < 1)\n            break;\n"),
     ("C: a walk ends with a run", HEADER, "status == FRAMEHOP_FRAMES_FULL && count < frame_capacity", "status == FRAMEHOP_FRAMES_FULL && count > frame_capacity"),
