@@ -333,31 +333,40 @@ static inline bool framehop_read_more(framehop_words_read *known, framehop_read_
     return true;
 }
 
-/* Reads the frame records to which one leads, the two words that are known: up to the run's length, and no more than there
- * may be frames. A record has the caller's frame pointer, and above it the return address. */
+/* Reads frame records from the one at a frame pointer on, each at the frame pointer in the one before it: up to the run's
+ * length, and no more than there may be frames. A record has the caller's frame pointer, and above it the return address.
+ * Both words of the first one may be known. */
 static inline void framehop_read_records(framehop_words_read *known, framehop_read_words read, void *data,
-    size_t frames_left)
+    uint64_t frame_pointer, size_t frames_left)
 {
-    size_t limit = known->run < frames_left ? known->run : frames_left, i;
-    known->windows[0].word_count = 2;
-    for (i = 1; i < limit; i++) {
-        uint64_t *words = &known->words[2 * i], below = known->windows[i - 1].base, base = words[-2];
-        size_t count;
-        if (words[-1] == 0 || base < below || base - below < 16 || base > UINT64_MAX - 16)
-            break;
-        count = read(data, base, words, 2);
-        if (count == 1)
-            count += read(data, base + 8, words + 1, 1);
-        if (count < 2)
-            break;
-        known->windows[i].base = base;
-        known->windows[i].words = words;
-        known->windows[i].word_count = 2;
-    }
-    known->window_count = i;
-    known->word_count = 2 * i;
+    size_t limit = known->run < frames_left ? known->run : frames_left, count = known->word_count;
+    known->window_count = known->word_count = 0;
+    known->read_count = 2;
     known->is_by_word = false;
     known->is_run = true;
+    while (known->window_count < limit) {
+        framehop_window *window = &known->windows[known->window_count++];
+        uint64_t *words = &known->words[known->word_count];
+        if (count == 0)
+            count = read(data, frame_pointer, words, 2);
+        if (count == 1)
+            count += read(data, frame_pointer + 8, words + 1, 1);
+        window->base = frame_pointer;
+        window->words = words;
+        window->word_count = count;
+        known->word_count += count;
+        if (count == 1) {
+            window[1].base = frame_pointer + 8;
+            window[1].words = words;
+            window[1].word_count = 0;
+            known->window_count++;
+        }
+        if (count < 2 || words[1] == 0 || words[0] < frame_pointer || words[0] - frame_pointer < 16
+            || words[0] > UINT64_MAX - 16)
+            return;
+        frame_pointer = words[0];
+        count = 0;
+    }
 }
 
 /* Reads the words that a step asks for, or returns false where the frame has asked often enough. A second word that lies
@@ -377,7 +386,7 @@ static inline bool framehop_read_asked(framehop_words_read *known, framehop_read
     if (!framehop_read_more(known, read, data, other))
         return false;
     if (base == frame_pointer && other - base == 8 && known->is_by_word && known->word_count == 2)
-        framehop_read_records(known, read, data, frames_left);
+        framehop_read_records(known, read, data, base, frames_left);
     return true;
 }
 
@@ -441,6 +450,8 @@ static inline int32_t framehop_unwinder_x86_64_walk_with(framehop_handle *unwind
             if (known.window_count == 0 && walk->unreadable == registers->rbp)
                 next.ahead.count = 2;
         } else if (status == FRAMEHOP_FRAMES_FULL && count < frame_capacity) {
+            if (registers->rbp >= registers->rsp && registers->rbp <= UINT64_MAX - 16)
+                framehop_read_records(&known, read, data, registers->rbp, frame_capacity - count);
             continue;
         } else if (status != FRAMEHOP_OK) {
             return status;
@@ -501,6 +512,8 @@ static inline int32_t framehop_unwinder_aarch64_walk_with(framehop_handle *unwin
             if (known.window_count == 0 && walk->unreadable >= 8 && next.ahead.second >= registers->sp)
                 next.ahead.count = 2;
         } else if (status == FRAMEHOP_FRAMES_FULL && count < frame_capacity) {
+            if (registers->fp >= registers->sp && registers->fp <= UINT64_MAX - 16)
+                framehop_read_records(&known, read, data, registers->fp, frame_capacity - count);
             continue;
         } else if (status != FRAMEHOP_OK) {
             return status;
