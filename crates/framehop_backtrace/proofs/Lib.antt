@@ -5,4 +5,3 @@ pub mod InfoLemmas
 pub mod KeptLemmas
 pub mod LibraryLemmas
 pub mod NextLemmas
-mod RunLemmas

@@ -1,5 +1,6 @@
 -- A backtrace: the frames of a stack, each with its registers and how it was found.
 use Rattle.std.specs.Prelude.{ℕ, zero, suc, Bool, true, false, not, ◌==◌, ◌&&◌, if◌then◌else◌, List, [], ◌∷◌, map, Option, Some, None, option_and_then, unwrap_or, Result, Ok, Err}
+use Rattle.std.specs.Option.{option_or}
 use Rattle.framehop_core.specs.CodeAddress.{FrameLocation, address_of, lookup_address, at_instruction_pointer, at_return_address, is_first_frame, location_of}
 use Rattle.framehop_core.specs.Memory.{Memory}
 use Rattle.framehop_core.specs.Outcome.{Outcome, answer_of, registers_after}
@@ -16,7 +17,7 @@ use Rattle.framehop_callers.specs.declared.caller.RowRefusal.{RowRefusal}
 use Rattle.framehop_callers.specs.declared.caller.RowRefusal.TheVariants as refusal
 use Rattle.framehop_callers.specs.Step.{Source as RunSource}
 use Rattle.framehop_callers.specs.declared.run.RunCaller.{RunCaller}
-use Rattle.framehop_backtrace.specs.Code.{Code, code_at, is_in_trampoline, is_in_code, is_outside_code}
+use Rattle.framehop_backtrace.specs.Code.{Code, is_in_trampoline, is_in_code, is_outside_code}
 use Rattle.framehop_backtrace.specs.Columns.{column, columns_by, returned_to}
 use Rattle.framehop_backtrace.specs.Guess.{evidence_at, evidence_of, is_taken, prefers_frame_pointer}
 use Rattle.framehop_backtrace.specs.Machine.{Machine}
@@ -97,10 +98,14 @@ returned_as machine code frame address columns = arrived code address (record {
   found = Cfi;
 })
 
--- what a run reads: the memory, the code, and which functions unwind data covers
+-- the words that a run knows: those of the memory, and else those that no process changes
+abbrev pub words_of : Memory → Code → Memory
+words_of memory code address = option_or (memory address) (code.constant address)
+
+-- what a run reads: these words, the code, and which functions unwind data covers
 abbrev pub run_source : Convention → Memory → Code → (ℕ → Bool) → RunSource
 run_source convention memory code covers =
-    record { convention = convention; memory = memory; code = code_at code; is_covered = covers }
+    record { convention = convention; memory = words_of memory code; code = code.instruction; is_covered = covers }
 
 -- the columns of a caller by a row: of a frame that is no caller itself with the registers that it has restored
 abbrev pub restored_columns : {Regs : Type 0} → Machine Regs → RunSource → FrameView Regs → List (Option ℕ) → List (Option ℕ)

@@ -16,6 +16,15 @@ pub trait CodeMemory: WordMemory {
     fn bytes_at(&self, address: u64, size: u64) -> Option<&[u8]>
         ensures { option_map (λ found. found.now) result ≡ (code self.now).bytes address size };
 
+    /// Returns the code from an address (AVMA) on: as many bytes as an instruction has at most, or as there are.
+    fn code_at(&self, address: u64) -> &[u8]
+        ensures { result.now ≡ (code self.now).instruction address };
+
+    /// Returns the word of eight bytes at an address (AVMA), if a file that is mapped there has it in data that no process
+    /// changes.
+    fn constant_at(&self, address: u64) -> Option<u64>
+        ensures { result ≡ (code self.now).constant address };
+
     /// Returns the instruction of x86_64 at the front of bytes, as [`action_at`] does. What was read before may be kept.
     ///
     /// [`action_at`]: framehop_code::x86_64::action::action_at

@@ -1,6 +1,5 @@
 //! The caller of a frame by running its code.
 ghost use Rattle.std.specs.Prelude.{◌≡◌, option_map};
-ghost use Rattle.framehop_backtrace.specs.Code.{longest, code_at};
 ghost use Rattle.framehop_backtrace.specs.Covers.{is_covered};
 ghost use Rattle.framehop_backtrace.specs.Backtrace.{frame_view, run_source, by_run, accepted, accepted_at};
 
@@ -17,9 +16,6 @@ use framehop_callers::step::RunMemory;
 use framehop_code::action::Instruction;
 use framehop_core::FrameAddress;
 
-/// How many bytes an instruction has at most.
-const MOST_BYTES: u64 = 15;
-
 /// What a run reads of a process: its memory and code, and which functions unwind data covers.
 #[derive(Clone, Copy, Drop)]
 pub(crate) struct ProcessCode<'a, U, M> {
@@ -28,20 +24,24 @@ pub(crate) struct ProcessCode<'a, U, M> {
 }
 
 impl<U: BacktraceUnwinder, M: CodeMemory> WordMemory for ProcessCode<'_, U, M> {
-    ghost memory = { λ process. M.memory process.memory.now };
+    ghost use Rattle.framehop_backtrace.specs.Backtrace.{words_of};
+
+    ghost memory = { λ process. words_of (M.memory process.memory.now) (M.code process.memory.now) };
 
     fn word(&self, address: u64) -> Option<u64> {
-        self.memory.word(address)
+        match self.memory.word(address) {
+            Some(word) => Some(word),
+            None => self.memory.constant_at(address),
+        }
     }
 }
 
 impl<U: BacktraceUnwinder, M: CodeMemory> RunMemory for ProcessCode<'_, U, M> {
-    ghost use Rattle.framehop_backtrace.specs.Code.{code_at};
     ghost use Rattle.framehop_backtrace.specs.Covers.{is_covered};
 
     ghost convention = { λ process. U.machine.convention };
 
-    ghost code = { λ process. code_at (M.code process.memory.now) };
+    ghost code = { λ process. (M.code process.memory.now).instruction };
 
     ghost covers = { λ process. is_covered (U.unwinder_view process.unwinder.now).modules };
 
@@ -50,40 +50,16 @@ impl<U: BacktraceUnwinder, M: CodeMemory> RunMemory for ProcessCode<'_, U, M> {
     }
 
     fn code_at(&self, address: u64) -> &[u8] {
-        code_at(self.memory, address)
+        self.memory.code_at(address)
     }
 
     fn instruction_at(&self, address: u64) -> Option<Instruction> {
-        self.memory.instruction_of(code_at(self.memory, address))
+        self.memory.instruction_of(self.memory.code_at(address))
     }
 
     fn is_covered(&self, address: u64) -> bool {
         self.unwinder.covers(address)
     }
-}
-
-/// Returns the code from an address (AVMA) on, at most as many bytes as an instruction has.
-fn code_at<M: CodeMemory>(memory: &M, address: u64) -> &[u8]
-    ensures { result.now ≡ code_at (M.code memory.now) address }
-{
-    if !memory.is_executable(address) {
-        return &[];
-    }
-    longest(memory, address)
-}
-
-/// Returns as many bytes from an address (AVMA) on as are known, at most as an instruction has.
-fn longest<M: CodeMemory>(memory: &M, address: u64) -> &[u8]
-    ensures { result.now ≡ longest (M.code memory.now).bytes address 15 }
-{
-    let mut size = MOST_BYTES;
-    while size > 0 {
-        match memory.bytes_at(address, size) {
-            Some(bytes) => return bytes,
-            None => size -= 1,
-        }
-    }
-    &[]
 }
 
 /// Returns the caller of a frame by running its code, if that comes to an address that may be after a call.

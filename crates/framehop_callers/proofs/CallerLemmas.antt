@@ -11,7 +11,7 @@ use Rattle.framehop_callers.specs.declared.convention.Convention.TheVariants.{X8
 use Rattle.framehop_callers.specs.declared.run.RunCaller.{RunCaller}
 use Rattle.framehop_callers.specs.declared.state.State.{State}
 use Rattle.framehop_callers.specs.Machine.{Machine}
-use Rattle.framehop_callers.specs.Run.{program_counter, alike, alike_below, common, caller_of, start, run_of, agree, both, agreed, caller_by_runs}
+use Rattle.framehop_callers.specs.Run.{program_counter, MOST_STEPS, alike, alike_below, common, caller_of, start, run_of, agree, both, agreed, caller_by_runs}
 use Rattle.framehop_callers.specs.Sound.{Agrees, ReturnsTo, IsCallerOf, IsSound}
 use Rattle.framehop_callers.specs.Convention.{program_counter_of}
 use Rattle.framehop_callers.specs.State.{stack_pointer}
@@ -100,7 +100,7 @@ run-is-of : (source : Source) (forward : Bool) (address : ℕ) (registers : List
 unfolding run_of
 run-is-of source forward address registers found before now long is agrees run =
     let fits : Fits source.memory (start address registers) before = record { long = long; knows = agrees.knows; remembers = agrees.remembers } in
-    let there = run-fits source forward 1024 (start address registers) found before now fits is run in
+    let there = run-fits source forward MOST_STEPS (start address registers) found before now fits is run in
     subst (λ (c : RunCaller). IsCallerOf source.convention c now) there.3 (fitting-caller source.memory source.convention there.0 now there.1 there.2)
 
 -- ---- both runs

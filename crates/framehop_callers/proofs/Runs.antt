@@ -1,12 +1,13 @@
 -- One more step of a run, and one more column.
-use Rattle.std.proofs.Common.{◌≡◌, ◌∙◌, sym, ap, ℕ, suc, ◌<◌, ◌-◌, arith, Bool, List, Option, None, refl}
+use Rattle.std.proofs.Common.{◌≡◌, ◌∙◌, sym, ap, ℕ, zero, suc, ◌<◌, ◌-◌, arith, Bool, false, List, Option, None, refl}
+use Rattle.std.proofs.Math.Nat.{zero-div}
 use Rattle.framehop_callers.specs.RegisterFile.{word_of, with_word}
 use Rattle.framehop_callers.specs.declared.run.RunCaller.{RunCaller}
 use Rattle.framehop_callers.specs.declared.state.State.{State}
 use Rattle.framehop_callers.specs.State.{is_in, forgotten_below}
 use Rattle.framehop_callers.specs.Step.{Source, After, step_of}
 use Rattle.framehop_callers.specs.Run.{alike, alike_below, onward, run_from}
-use Rattle.std.specs.Prelude.{if◌then◌else◌}
+use Rattle.std.specs.Prelude.{◌^◌, if◌then◌else◌}
 
 less-one : (n : ℕ) → 0 < n → n ≡ suc (n - 1)
 less-one n some = omega arith
@@ -46,3 +47,12 @@ pub after_step : (source : Source) (forward : Bool) (n : ℕ) (state : State) (n
     → onward source.convention (run_from source forward (n - 1)) now ≡ whole
 after_step source forward n state now whole some is before =
     ap (onward source.convention (run_from source forward (n - 1))) is ∙ sym (one_step source forward n state some) ∙ before
+
+-- a set without registers
+none-in : (n : ℕ) → is_in 0 n ≡ false
+none-in n = rw (zero-div (2 ^ n)) refl
+
+pub nothing_forgotten : (n : ℕ) (words : List (Option ℕ)) → forgotten_below 0 n words ≡ words
+unfolding forgotten_below
+nothing_forgotten zero words = refl
+nothing_forgotten (suc n) words = rw (none-in n) (nothing_forgotten n words)

@@ -52,8 +52,12 @@ run_from source forward (suc n) state = onward source.convention (run_from sourc
 abbrev pub start : ℕ → List (Option ℕ) → State
 start address registers = record { address = address; registers = registers; writes = []; calls = []; after_calls = []; looped = 0 }
 
+-- how many instructions a run does at most
+abbrev pub MOST_STEPS : ℕ
+MOST_STEPS = 4096
+
 unfoldable pub run_of : Source → Bool → ℕ → List (Option ℕ) → Option RunCaller
-run_of source forward address registers = run_from source forward 1024 (start address registers)
+run_of source forward address registers = run_from source forward MOST_STEPS (start address registers)
 
 -- two callers agree in return address and stack pointer
 abbrev pub agree : Convention → RunCaller → RunCaller → Bool

@@ -37,7 +37,7 @@
 //!   is stripped by who asks.
 //! - A write to an address that isn't known goes to no word that the run needs: without this each
 //!   `mov [rdi], rax` could overwrite the return address.
-//! - A run is given up after 1,024 instructions, 128 writes, and 8 calls that are open or places of calls that were entered.
+//! - A run is given up after 4,096 instructions, 128 writes, and 8 calls that are open or places of calls that were entered.
 //!   No call takes memory.
 #![tactic(auto)]
 

@@ -2,7 +2,7 @@
 ghost use Rattle.std.specs.Prelude.{◌≡◌, IfSome, true, false};
 ghost use Rattle.framehop_callers.specs.Caller.{is_same};
 ghost use Rattle.framehop_callers.specs.RegisterFile.{word_of, unknown};
-ghost use Rattle.framehop_callers.specs.Run.{alike, alike_below, common, caller_of, run_from, run_of, agree, both, agreed, caller_by_runs};
+ghost use Rattle.framehop_callers.specs.Run.{MOST_STEPS, alike, alike_below, common, caller_of, run_from, run_of, agree, both, agreed, caller_by_runs};
 ghost use Rattle.framehop_callers.specs.Sound.{IsSound};
 
 use crate::calls::Calls;
@@ -14,7 +14,7 @@ use crate::step::{RunMemory, Step};
 use framehop_cfi::rule::Register;
 
 /// How many instructions a run does at most.
-const MOST_STEPS: u32 = 1024;
+const MOST_STEPS: u32 = 4096;
 
 /// The caller of a frame, by runs of the frame's code.
 #[derive(Clone, Copy)]
@@ -68,7 +68,7 @@ fn run<M: RunMemory>(
 
 /// Returns the caller that a run from a state comes to.
 fn run_from<M: RunMemory>(memory: &M, forward: bool, state: &mut State) -> Option<RunCaller>
-    ensures { result ≡ run_from (record { convention = M.convention memory.now; memory = M.WordMemory.memory memory.now; code = M.code memory.now; is_covered = M.covers memory.now }) forward 1024 state.old }
+    ensures { result ≡ run_from (record { convention = M.convention memory.now; memory = M.WordMemory.memory memory.now; code = M.code memory.now; is_covered = M.covers memory.now }) forward MOST_STEPS state.old }
 {
     let mut left = MOST_STEPS;
     while left > 0 {

@@ -214,6 +214,10 @@ impl State {
 fn forget_registers(words: &mut RegisterFile, registers: Registers)
     ensures { words.new ≡ forgotten_below registers.0 32 words.old }
 {
+    // most instructions of vectors change none
+    if registers.0 == 0 {
+        return;
+    }
     let mut left = 32u16;
     while left > 0 {
         left -= 1;

@@ -1,18 +1,22 @@
 //! The memory of a process with the code of the files that it maps.
 ghost use Rattle.std.specs.Prelude.{◌≡◌, ℕ, List, Bool, Option, option_map};
 ghost use Rattle.framehop_processes.specs.Place.{place_view};
-ghost use Rattle.framehop_frames.specs.Code.{bytes_from, bytes_at, start_in};
+ghost use Rattle.framehop_frames.specs.Code.{bytes_from, bytes_at, instruction_in, start_in};
 
 use framehop::walk::{StackBytes, Words};
 use framehop_backtrace::CodeMemory;
 use framehop_backtrace::signal::is_trampoline;
-use framehop_bytes::bytes::back;
+use framehop_bytes::bytes::{back, front};
 use framehop_callers::memory::WordMemory;
 use framehop_code::action::Instruction;
 use framehop_processes::code::{code_at, is_at_entry, is_mapped};
+use framehop_processes::constants::constant_at;
 use framehop_processes::files::Files;
 use framehop_processes::place::{Place, place_of};
 use framehop_processes::{Process, ProcessUnwinder};
+
+/// How many bytes an instruction has at most.
+const MOST_BYTES: usize = 15;
 
 /// Memory of a process as an input has it: the stack of a sample, or what a dump has.
 pub trait KnownMemory: Words {
@@ -71,6 +75,17 @@ impl<K: KnownMemory, U: ProcessUnwinder> CodeMemory for MappedMemory<'_, '_, K, 
         bytes.get(..size as usize)
     }
 
+    fn code_at(&self, address: u64) -> &[u8] {
+        match self.known.bytes_from(address) {
+            Some(bytes) if self.is_executable(address) => front(bytes, MOST_BYTES),
+            _ => instruction_in(code_at(self.files, self.process.mappings(), address)),
+        }
+    }
+
+    fn constant_at(&self, address: u64) -> Option<u64> {
+        constant_at(self.files, self.process.mappings(), address)
+    }
+
     fn is_executable(&self, address: u64) -> bool {
         is_mapped(self.process.mappings(), address) || self.known.is_code(address)
     }
@@ -95,6 +110,16 @@ impl<K: KnownMemory, U: ProcessUnwinder> CodeMemory for MappedMemory<'_, '_, K, 
 
     fn instruction_of(&self, bytes: &[u8]) -> Option<Instruction> {
         self.files.instructions().action_at(bytes)
+    }
+}
+
+/// Returns the first bytes of code, as many as an instruction has at most: none where there is no code.
+fn instruction_in(code: Option<&[u8]>) -> &[u8]
+    ensures { result.now ≡ instruction_in (option_map (λ code. code.now) code) }
+{
+    match code {
+        Some(code) => front(code, MOST_BYTES),
+        None => &[],
     }
 }
 

@@ -2,6 +2,7 @@
 mod AddressLemmas
 mod CodeLemmas
 mod CodeMapLemmas
+mod ConstantLemmas
 mod ExchangeLemmas
 mod FileLemmas
 mod FrameLemmas

@@ -8,7 +8,7 @@ use Rattle.framehop_processes.specs.declared.mapping.Mapping.{Mapping}
 use Rattle.framehop_processes.specs.Mappings.{IsInOrder}
 use Rattle.framehop_processes.specs.Place.{has_address, starting_by}
 
-starts-from : (from : ℕ) (ms : List Mapping) → IsInOrder from ms → (k : ℕ) (d : Mapping) → k < length ms
+pub starts-from : (from : ℕ) (ms : List Mapping) → IsInOrder from ms → (k : ℕ) (d : Mapping) → k < length ms
     → from ≤ (slice_index_or ms k d).start
 starts-from from [] order k d within = absurd (omega (arith, within))
 starts-from from (m ∷ ms) order zero d within = order.0

@@ -5,31 +5,31 @@ use Rattle.std.specs.Option.{is_some}
 use Rattle.framehop_processes.specs.declared.mapping.Mapping.{Mapping}
 use Rattle.framehop_processes.specs.Place.{has_address}
 use Rattle.framehop_memory.specs.declared.segment.Segment.{Segment}
-use Rattle.framehop_processes.specs.ObjectFiles.{CodeView, code_view, is_at_entry as is_at_entry_of}
-use Rattle.framehop_processes.specs.declared.code.SegmentCode.{SegmentCode}
+use Rattle.framehop_processes.specs.ObjectFiles.{PartView, code_view, is_at_entry as is_at_entry_of}
+use Rattle.framehop_processes.specs.declared.code.FilePart.{FilePart}
 use Rattle.framehop_processes.specs.Files.{object_in}
 use Rattle.framehop_processes.specs.declared.object_file.ObjectFile.{ObjectFile}
 use Rattle.framehop_processes.specs.declared.files.Files.{Files}
 
 -- where the bytes of a segment are in its file
-abbrev pub segment_code : Segment → SegmentCode
+abbrev pub segment_code : Segment → FilePart
 segment_code segment = record {
   start = segment.address;
   offset = segment.offset;
   size = if segment.is_code then segment.file_size else 0;
 }
 
--- the code of a segment has a stated address
-abbrev pub has_svma : ℕ → CodeView → Bool
-has_svma svma code = nat_le code.start svma && nat_lt (svma - code.start) (length code.bytes)
+-- a part of a file has a stated address
+abbrev pub has_svma : ℕ → PartView → Bool
+has_svma svma part = nat_le part.start svma && nat_lt (svma - part.start) (length part.bytes)
 
--- the code of a file from a stated address on, as far as the first segment has it that has the address
-abbrev pub code_from : List CodeView → ℕ → Option (List ℕ)
-code_from code svma = option_map (λ segment. drop (svma - segment.start) segment.bytes) (find (has_svma svma) code)
+-- the bytes of a file from a stated address on, as far as the first of its parts has them that has the address
+abbrev pub bytes_from : List PartView → ℕ → Option (List ℕ)
+bytes_from parts svma = option_map (λ part. drop (svma - part.start) part.bytes) (find (has_svma svma) parts)
 
--- the same from an address (AVMA) of a mapping on: one without sections is of no file that was read
+-- the code from an address (AVMA) of a mapping on: one without sections is of no file that was read
 abbrev pub code_of_object : ℕ → ObjectFile → Option (List ℕ)
-code_of_object svma object = code_from (code_view object.code) svma
+code_of_object svma object = bytes_from (code_view object.code) svma
 
 abbrev pub code_in_mapping : Files → ℕ → Mapping → Option (List ℕ)
 code_in_mapping files address mapping =

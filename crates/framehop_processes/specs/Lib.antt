@@ -13,6 +13,7 @@ pub mod CodeMap
 pub mod Files
 pub mod Place
 pub mod Code
+pub mod Constants
 pub mod Found
 pub mod DebugFrame
 pub mod FramesText

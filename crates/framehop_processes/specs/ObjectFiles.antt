@@ -11,6 +11,7 @@ use Rattle.framehop_bytes.specs.ExplicitSections.{table_of}
 use Rattle.framehop_bytes.specs.declared.section.ExplicitModuleSectionInfo.{ExplicitModuleSectionInfo}
 use Rattle.framehop_object.specs.Elf.BuildId.{build_id_of_file}
 use Rattle.framehop_object.specs.Elf.Header.{file_header_of}
+use Rattle.framehop_object.specs.Elf.Numbers.{SHT_NOBITS}
 use Rattle.framehop_object.specs.Elf.ProgramHeader.{program_headers_of}
 use Rattle.framehop_object.specs.Elf.Segment.{loaded_segments_of}
 use Rattle.framehop_object.specs.Elf.ElfFile.{ElfFile, elf_file_with, section_called}
@@ -39,7 +40,7 @@ use Rattle.framehop.specs.ModuleData.{unwind_data_in}
 use Rattle.framehop_processes.specs.Exports.{symbols_of as exported_symbols_of}
 use Rattle.framehop_processes.specs.MadeUpId.{is_made_up}
 use Rattle.framehop_processes.specs.declared.code.FileCode.{FileCode}
-use Rattle.framehop_processes.specs.declared.code.SegmentCode.{SegmentCode}
+use Rattle.framehop_processes.specs.declared.code.FilePart.{FilePart}
 use Rattle.framehop_processes.specs.declared.object_file.ObjectFile.{ObjectFile}
 use Rattle.framehop_processes.specs.declared.object_file.FileProblem.{FileProblem}
 use Rattle.framehop_processes.specs.declared.object_file.FileProblem.TheVariants.{OtherBuildId, Elf, Pe}
@@ -223,37 +224,64 @@ no_sections = record {
 abbrev pub bare_module : ModuleView
 bare_module = module_of no_sections
 
--- the code of a segment: where it begins, and its bytes in the file, or none where it may not be executed
-pub record CodeView : Type 0 where
+-- a part of a file that is loaded: the stated address at which it begins, and its bytes
+pub record PartView : Type 0 where
   pub start : ℕ
   pub bytes : List ℕ
 
--- that of a segment, by where its bytes are in its file; and that of all segments
-abbrev pub segment_view : List ℕ → SegmentCode → CodeView
-segment_view file segment = record { start = segment.start; bytes = take segment.size (drop segment.offset file) }
+-- that of a part, by where its bytes are in its file
+abbrev pub part_view : List ℕ → FilePart → PartView
+part_view file part = record { start = part.start; bytes = take part.size (drop part.offset file) }
 
-abbrev pub code_view : FileCode → List CodeView
-code_view code = map (segment_view code.file.items) code.segments.items
+-- the code of all segments; of one that may not be executed it has no bytes
+abbrev pub code_view : FileCode → List PartView
+code_view code = map (part_view code.file.items) code.segments.items
 
-abbrev pub code_of_segment : List ℕ → Segment → CodeView
+abbrev pub code_of_segment : List ℕ → Segment → PartView
 code_of_segment file segment = record {
   start = segment.address;
   bytes = take (if segment.is_code then segment.file_size else 0) (drop segment.offset file);
 }
 
-abbrev pub code_of : List ℕ → List Segment → List CodeView
+abbrev pub code_of : List ℕ → List Segment → List PartView
 code_of file segments = map (code_of_segment file) segments
+
+-- the data that no process changes: of sections that are loaded (`SHF_ALLOC`), that a process may not write (`SHF_WRITE`),
+-- and that have bytes in the file (System V gABI, "Sections")
+abbrev pub SHF_WRITE : ℕ
+SHF_WRITE = 1
+
+abbrev pub SHF_ALLOC : ℕ
+SHF_ALLOC = 2
+
+abbrev pub is_constant : SectionHeader → Bool
+is_constant section =
+    not (bit_and section.sh_flags SHF_ALLOC == 0) && (bit_and section.sh_flags SHF_WRITE == 0)
+    && not (section.sh_type == SHT_NOBITS)
+
+abbrev pub part_of_section : SectionHeader → FilePart
+part_of_section section = record { start = section.sh_addr; offset = section.sh_offset; size = section.sh_size }
+
+abbrev pub constant_parts : List SectionHeader → List FilePart
+constant_parts sections = map part_of_section (filter is_constant sections)
+
+abbrev pub constants_of : List ℕ → List SectionHeader → List PartView
+constants_of file sections = map (part_view file) (constant_parts sections)
+
+abbrev pub constants_view : ObjectFile → List PartView
+constants_view object = map (part_view object.code.file.items) object.constants.items
 
 -- an address is in the code with which a process begins: in the 64 bytes from an entry point on, if there is one
 abbrev pub is_at_entry : ℕ → ℕ → Bool
 is_at_entry entry svma = not (entry == 0) && nat_le entry svma && nat_lt (svma - entry) 64
 
--- what a file says that is kept: its segments, their code, where a process begins in it, its build id, its modules and its
--- symbol tables
+-- what a file says that is kept: its segments, their code, its constant data, where a process begins in it, its
+-- build id, its modules and its symbol tables
 pub record Contents : Type 0 where
   pub segments : List Segment
   pub entry : ℕ
-  pub code : List CodeView
+  pub code : List PartView
+  pub constants : List PartView
   pub build_id : List ℕ
   pub debug_link : List ℕ
   pub frames_problem : Option ContentsError
@@ -267,6 +295,7 @@ elf_contents file headers = record {
   segments = loaded_segments_of headers.segments;
   entry = headers.elf.header.e_entry;
   code = code_of file (loaded_segments_of headers.segments);
+  constants = constants_of file headers.elf.sections;
   build_id = build_id_in headers;
   debug_link = debug_link_in headers.elf;
   frames_problem = result_err (debug_frame_of headers.elf);
@@ -331,6 +360,7 @@ pe_contents file pe = record {
   segments = map segment_of pe.sections;
   entry = 0;
   code = code_of file (map segment_of pe.sections);
+  constants = [];
   build_id = identity_of pe;
   debug_link = [];
   frames_problem = None;
@@ -374,6 +404,7 @@ pub record IsKeptBy (contents : Contents) (debug : List Listed) (object : Object
   pub segments : object.segments.items ≡ contents.segments
   pub entry : object.entry ≡ contents.entry
   pub code : code_view object.code ≡ contents.code
+  pub constants : constants_view object ≡ contents.constants
   pub build_id : object.build_id.items ≡ contents.build_id
   pub debug_link : object.debug_link.items ≡ contents.debug_link
   pub frames_problem : object.frames_problem ≡ contents.frames_problem
@@ -384,7 +415,8 @@ pub record IsKeptBy (contents : Contents) (debug : List Listed) (object : Object
 -- the same of all but the code: with that of the file it is what is kept
 abbrev pub IsKeptWith : List ℕ → Contents → List Listed → ObjectFile → Type 0
 IsKeptWith file contents debug object =
-    (code : FileCode) → code_view code ≡ code_of file object.segments.items → IsKeptBy contents debug (record object { code = code })
+    (code : FileCode) → code.file.items ≡ file → code_view code ≡ code_of file object.segments.items
+    → IsKeptBy contents debug (record object { code = code })
 
 abbrev pub IsKeptOf : List ℕ → List Listed → ObjectFile → Type 0
 IsKeptOf file debug object =

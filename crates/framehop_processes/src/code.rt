@@ -1,8 +1,8 @@
 //! The code of the files that processes map.
 ghost use Rattle.std.specs.Prelude.{◌≡◌, IfOk, map, option_map};
 ghost use Rattle.framehop_processes.specs.Mappings.{IsInOrder};
-ghost use Rattle.framehop_processes.specs.ObjectFiles.{segment_view, code_view, code_of};
-ghost use Rattle.framehop_processes.specs.Code.{segment_code, has_svma, code_from, code_in_mapping, code_at, is_mapped, entry_in_mapping, is_at_entry};
+ghost use Rattle.framehop_processes.specs.ObjectFiles.{part_view, code_view, code_of};
+ghost use Rattle.framehop_processes.specs.Code.{segment_code, has_svma, bytes_from, code_in_mapping, code_at, is_mapped, entry_in_mapping, is_at_entry};
 
 use crate::Mapping;
 use crate::files::Files;
@@ -15,18 +15,19 @@ use std::alloc::{AllocError, Global};
 #[derive(Drop)]
 pub struct FileCode {
     file: Vec<u8>,
-    segments: Vec<SegmentCode>,
+    /// How much of each segment is code: nothing where it may not be executed.
+    segments: Vec<FilePart>,
 }
 
-/// The code of a segment of a file.
+/// A part of a file that is loaded.
 #[derive(Clone, Copy, Drop)]
-struct SegmentCode {
-    /// The first address of the segment, as the file states it (SVMA).
-    start: u64,
+pub(crate) struct FilePart {
+    /// Its first address, as the file states it (SVMA).
+    pub(crate) start: u64,
     /// Where its bytes begin in the file.
-    offset: u64,
-    /// How many bytes of it are in the file: none where it may not be executed.
-    size: u64,
+    pub(crate) offset: u64,
+    /// How many bytes of it are in the file.
+    pub(crate) size: u64,
 }
 
 /// The size of a file whose code is large, in bytes: 16 MiB.
@@ -36,6 +37,13 @@ impl FileCode {
     /// Returns whether there is much code.
     pub(crate) fn is_large(&self) -> bool {
         self.file.len() >= LARGE
+    }
+
+    /// Returns the bytes of the file.
+    pub(crate) fn file(&self) -> &[u8]
+        ensures { result.now ≡ self.now.file.items }
+    {
+        self.file.as_slice()
     }
 }
 
@@ -99,14 +107,15 @@ pub(crate) fn code_of(
     file: Vec<u8>,
     segments: &[Segment],
 ) -> Result<FileCode, AllocError>
-    ensures { IfOk result (λ code. code_view code ≡ code_of file.items segments.now) }
+    ensures code { IfOk result (λ code. code_view code ≡ code_of file.items segments.now) }
+    ensures file { IfOk result (λ code. code.file.items ≡ file.items) }
 {
     let segments = segments_in(alloc, segments)?;
     Ok(FileCode { file, segments })
 }
 
 /// Returns where the bytes of segments are in their file.
-fn segments_in(alloc: Global, segments: &[Segment]) -> Result<Vec<SegmentCode>, AllocError>
+fn segments_in(alloc: Global, segments: &[Segment]) -> Result<Vec<FilePart>, AllocError>
     ensures { IfOk result (λ code. code.items ≡ map segment_code segments.now) }
 {
     segments
@@ -124,10 +133,10 @@ pub(crate) fn no_code(alloc: Global) -> FileCode {
 }
 
 /// Returns where the bytes of a segment are in its file.
-fn segment_code(segment: Segment) -> SegmentCode
+fn segment_code(segment: Segment) -> FilePart
     ensures { result ≡ segment_code segment }
 {
-    SegmentCode {
+    FilePart {
         start: segment.address,
         offset: segment.offset,
         size: if segment.is_code {
@@ -140,27 +149,34 @@ fn segment_code(segment: Segment) -> SegmentCode
 
 /// Returns the code from an address (SVMA) on, as far as the first segment has it that has the address.
 pub(crate) fn code_from(code: &FileCode, svma: u64) -> Option<&[u8]>
-    ensures { option_map (λ code. code.now) result ≡ code_from (code_view code.entry.now) svma }
+    ensures { option_map (λ code. code.now) result ≡ bytes_from (code_view code.entry.now) svma }
 {
-    for segment in &code.segments {
-        let bytes = bytes_in(code.file.as_slice(), *segment);
-        if has_svma(*segment, bytes, svma) {
-            return Some(back(bytes, svma - segment.start));
+    bytes_from(code.file.as_slice(), code.segments.as_slice(), svma)
+}
+
+/// Returns the bytes of a file from an address (SVMA) on, as far as the first of its parts has them that has the address.
+pub(crate) fn bytes_from<'a>(file: &'a [u8], parts: &[FilePart], svma: u64) -> Option<&'a [u8]>
+    ensures { option_map (λ bytes. bytes.now) result ≡ bytes_from (map (part_view file.entry.now) parts.now) svma }
+{
+    for part in parts {
+        let bytes = bytes_in(file, *part);
+        if has_svma(*part, bytes, svma) {
+            return Some(back(bytes, svma - part.start));
         }
     }
     None
 }
 
-/// Returns the bytes of a segment in its file.
-fn bytes_in(file: &[u8], segment: SegmentCode) -> &[u8]
-    ensures { result.now ≡ (segment_view file.entry.now segment).bytes }
+/// Returns the bytes of a part of a file.
+fn bytes_in(file: &[u8], part: FilePart) -> &[u8]
+    ensures { result.now ≡ (part_view file.entry.now part).bytes }
 {
-    front(back(file, segment.offset), segment.size as usize)
+    front(back(file, part.offset), part.size as usize)
 }
 
-/// Returns whether the code of a segment, which has these bytes, has an address (SVMA).
-fn has_svma(segment: SegmentCode, bytes: &[u8], svma: u64) -> bool
-    ensures { result ≡ has_svma svma (record { start = segment.start; bytes = bytes.now }) }
+/// Returns whether a part of a file, which has these bytes, has an address (SVMA).
+fn has_svma(part: FilePart, bytes: &[u8], svma: u64) -> bool
+    ensures { result ≡ has_svma svma (record { start = part.start; bytes = bytes.now }) }
 {
-    segment.start <= svma && svma - segment.start < bytes.len() as u64
+    part.start <= svma && svma - part.start < bytes.len() as u64
 }

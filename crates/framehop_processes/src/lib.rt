@@ -31,6 +31,7 @@
 mod around;
 pub mod code;
 pub mod code_map;
+pub mod constants;
 pub mod debug_frame;
 pub mod error;
 mod exchange;

@@ -9,13 +9,15 @@ ghost use Rattle.framehop_object.specs.declared.elf.error.ElfError.{ElfError};
 ghost use Rattle.framehop_memory.specs.Segment.{base_of};
 ghost use Rattle.framehop_processes.specs.ObjectFiles.{Contents, headers_view, headers_of, build_id_in, build_id_by, debug_link_in, contents_of, is_another, is_another_file, problem_by, problem_of, is_at_entry, debug_tables_of, AreTables, module_of, module_with, module_in, debug_frame_with, debug_frame_in, bare_module, export_tables_of, elf_contents_of, pe_contents_of, IsOutOfMemory, IsKeptWith, IsKeptOf};
 ghost use Rattle.framehop_processes.specs.Code.{code_of_object};
+ghost use Rattle.framehop_processes.specs.Constants.{constant_in};
 ghost use Rattle.framehop_processes.specs.MappedBytes.{mapped_sections_view};
 ghost use Rattle.framehop_processes.specs.Found.{has_names};
 ghost use Rattle.framehop.specs.Parts.{is_unwind_data};
 ghost use Rattle.framehop_processes.specs.Place.{function_at, unnamed_start};
 ghost use Rattle.framehop_processes.specs.declared.object_file.FileProblem.{FileProblem};
 
-use crate::code::{FileCode, code_from, code_of, no_code};
+use crate::code::{FileCode, FilePart, bytes_from, code_from, code_of, no_code};
+use crate::constants::{constant_parts, first_word};
 use crate::exports::exported_functions;
 use crate::function_start::function_start;
 use crate::made_up_id::is_made_up;
@@ -57,6 +59,8 @@ pub struct ObjectFile<'m> {
     entry: u64,
     /// The code of each segment.
     code: FileCode,
+    /// Where the data is that no process changes.
+    constants: Vec<FilePart>,
     symbols: Vec<Symbols>,
     /// At no address. The modules of mappings share its unwind data.
     module: Module<MappedBytes<'m>>,
@@ -233,6 +237,14 @@ impl<'m> ObjectFile<'m> {
         code_from(&self.code, svma)
     }
 
+    /// Returns the word of eight bytes at an address (SVMA), if the file has it in data that no process changes.
+    pub(crate) fn constant(&self, svma: u64) -> Option<u64>
+        ensures { result ≡ constant_in svma self.now }
+    {
+        let bytes = bytes_from(self.code.file(), self.constants.as_slice(), svma)?;
+        first_word(bytes)
+    }
+
     /// Returns whether the file has much code.
     pub(crate) fn has_large_code(&self) -> bool {
         self.code.is_large()
@@ -315,6 +327,7 @@ fn read_pe<'m>(alloc: Global, bytes: &[u8], wanted: &[u8]) -> Result<ObjectFile<
         segments,
         entry: 0,
         code: no_code(alloc),
+        constants: Vec::new(alloc),
         symbols,
         module,
         debug_frame: bare_module(alloc)?,
@@ -372,6 +385,7 @@ fn read_elf<'m>(alloc: Global, bytes: &[u8], wanted: &[u8]) -> Result<ObjectFile
         segments,
         entry: elf.header().e_entry,
         code: no_code(alloc),
+        constants: constant_parts(alloc, elf.sections())?,
         symbols,
         module,
         debug_frame,

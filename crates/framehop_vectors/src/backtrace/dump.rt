@@ -3,11 +3,15 @@ ghost use Rattle.std.specs.Prelude.{◌≡◌};
 
 use framehop_backtrace::memory::CodeMemory;
 use framehop_backtrace::signal::is_trampoline;
+use framehop_bytes::bytes::front;
 use framehop_callers::memory::WordMemory;
 use framehop_code::action::Instruction;
 use framehop_code::x86_64::action::action_at;
 use framehop_memory::memory::{MemoryRange, ProcessMemory};
 use std::alloc::{AllocError, Global};
+
+/// How many bytes an instruction has at most.
+const MOST_BYTES: usize = 15;
 
 /// The memory of a process, whose code is from one address (AVMA) on, up to another, and in which one function is known.
 #[derive(Drop)]
@@ -31,13 +35,16 @@ impl<'a> WordMemory for Dump<'a> {
 }
 
 impl<'a> CodeMemory for Dump<'a> {
-    ghost use Rattle.std.specs.Prelude.{nat_le, nat_lt, nat_eq, ◌&&◌};
+    ghost use Rattle.std.specs.Prelude.{nat_le, nat_lt, nat_eq, ◌&&◌, None, [], take, unwrap_or, if◌then◌else◌};
     ghost use Rattle.framehop_memory.specs.Memory.{memory_view, bytes_of, bytes_after};
     ghost use Rattle.framehop_backtrace.specs.Signal.{is_trampoline};
     ghost use Rattle.framehop_backtrace.specs.Call.{passes};
 
     ghost code = { λ dump. record {
       bytes = bytes_of (memory_view dump.memory);
+      instruction = λ address. if nat_le dump.code_start address && nat_lt address dump.code_end
+          then take 15 (unwrap_or (bytes_after (memory_view dump.memory) address) []) else [];
+      constant = λ address. None;
       is_executable = λ address. nat_le dump.code_start address && nat_lt address dump.code_end;
       is_trampoline = λ address. passes is_trampoline (bytes_after (memory_view dump.memory) address);
       start_of = λ address. dump.function_start;
@@ -46,6 +53,17 @@ impl<'a> CodeMemory for Dump<'a> {
 
     fn bytes_at(&self, address: u64, size: u64) -> Option<&[u8]> {
         self.memory.bytes_at(address, size)
+    }
+
+    fn code_at(&self, address: u64) -> &[u8] {
+        match self.memory.bytes_from(address) {
+            Some(code) if self.is_executable(address) => front(code, MOST_BYTES),
+            _ => &[],
+        }
+    }
+
+    fn constant_at(&self, _address: u64) -> Option<u64> {
+        None
     }
 
     fn is_executable(&self, address: u64) -> bool {

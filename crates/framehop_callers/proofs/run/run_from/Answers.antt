@@ -1,7 +1,7 @@
 use Rattle.std.proofs.Common.{◌≡◌, ℕ, sym, ◌∙◌, arith, subst}
 use Rattle.framehop_callers.specs.Step.{Source, goes, given_up}
 use Rattle.framehop_callers.specs.Step as step
-use Rattle.framehop_callers.specs.Run.{run_from}
+use Rattle.framehop_callers.specs.Run.{MOST_STEPS, run_from}
 use Rattle.framehop_callers.proofs.Runs.{after_step, no_step}
 use Rattle.framehop_callers.proofs.run.run_from.Goals as goal
 
@@ -26,4 +26,4 @@ returns g c =
     let source : Source = record { convention = g.M.RunMemory.convention c.args.memory.now; memory = g.M.WordMemory.memory c.args.memory.now; code = g.M.RunMemory.code c.args.memory.now; is_covered = g.M.RunMemory.covers c.args.memory.now } in
     let none : c.loop-left.left ≡ 0 = omega arith in
     sym (no_step source c.args.forward c.loop-left.state)
-    ∙ subst (λ (k : ℕ). run_from source c.args.forward k c.loop-left.state ≡ run_from source c.args.forward 1024 c.args.state.now) none c.loop-left.invariant
+    ∙ subst (λ (k : ℕ). run_from source c.args.forward k c.loop-left.state ≡ run_from source c.args.forward MOST_STEPS c.args.state.now) none c.loop-left.invariant

@@ -11,10 +11,11 @@ returns-clause-kept c =
     let listed : c.in_ok-segments.segments.items ≡ map segment_of pe.sections = search rules in (
       pe_contents file pe,
       ap (pe_contents_by file) read,
-      λ code same. record {
+      λ code whole same. record {
         segments = search rules;
         entry = search rules;
         code = same ∙ ap (code_of file) listed;
+        constants = search rules;
         build_id = search rules;
         debug_link = search rules;
         frames_problem = search rules;
