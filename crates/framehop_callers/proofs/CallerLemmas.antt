@@ -9,9 +9,10 @@ use Rattle.framehop_callers.proofs.Columns.{is-set, set-elsewhere}
 use Rattle.framehop_callers.specs.declared.convention.Convention.{Convention}
 use Rattle.framehop_callers.specs.declared.convention.Convention.TheVariants.{X86_64, Aarch64}
 use Rattle.framehop_callers.specs.declared.run.RunCaller.{RunCaller}
+use Rattle.framehop_callers.specs.declared.run.Together.TheVariants.{Ends, Forks}
 use Rattle.framehop_callers.specs.declared.state.State.{State}
 use Rattle.framehop_callers.specs.Machine.{Machine}
-use Rattle.framehop_callers.specs.Run.{program_counter, MOST_STEPS, alike, alike_below, common, caller_of, start, run_of, agree, both, agreed, caller_by_runs}
+use Rattle.framehop_callers.specs.Run.{MOST_STEPS, IsTogether, run_from, program_counter, alike, alike_below, common, caller_of, start, run_of, agree, both, agreed, caller_by_runs}
 use Rattle.framehop_callers.specs.Sound.{Agrees, ReturnsTo, IsCallerOf, IsSound}
 use Rattle.framehop_callers.specs.Convention.{program_counter_of}
 use Rattle.framehop_callers.specs.State.{stack_pointer}
@@ -171,3 +172,25 @@ pub caller-sound : (source : Source) (address : ℕ) (registers : List (Option �
 unfolding caller_by_runs
 caller-sound source address registers None is = tt
 caller-sound source address registers (Some found) is = one-sound source address registers found (sym is)
+
+-- ---- where both runs are one
+
+pub ends-exact : (source : Source) (address : ℕ) (registers : List (Option ℕ)) (first state : State) (caller : Option RunCaller)
+    → first ≡ start address registers → IsTogether source first state (Ends caller)
+    → agreed source.convention caller caller ≡ caller_by_runs source address registers
+unfolding caller_by_runs run_of
+ends-exact source address registers first state caller begins ends =
+    let run : (forward : Bool) → caller ≡ run_from source forward MOST_STEPS (start address registers) =
+    λ forward. sym (ends forward) ∙ ap (run_from source forward MOST_STEPS) begins in
+    ap (λ (c : Option RunCaller). agreed source.convention c caller) (run false)
+    ∙ ap (agreed source.convention (run_from source false MOST_STEPS (start address registers))) (run true)
+
+pub forks-exact : (source : Source) (address : ℕ) (registers : List (Option ℕ)) (first state : State) (left : ℕ)
+    → first ≡ start address registers → IsTogether source first state (Forks left)
+    → agreed source.convention (run_from source false left state) (run_from source true left state) ≡ caller_by_runs source address registers
+unfolding caller_by_runs run_of
+forks-exact source address registers first state left begins forks =
+    let run : (forward : Bool) → run_from source forward left state ≡ run_from source forward MOST_STEPS (start address registers) =
+    λ forward. sym (forks forward) ∙ ap (run_from source forward MOST_STEPS) begins in
+    ap (λ (c : Option RunCaller). agreed source.convention c (run_from source true left state)) (run false)
+    ∙ ap (agreed source.convention (run_from source false MOST_STEPS (start address registers))) (run true)

@@ -39,7 +39,7 @@ use Rattle.framehop_callers.specs.declared.run.RunCaller.{RunCaller}
 use Rattle.framehop_callers.specs.Run.{caller_of, onward, run_from}
 use Rattle.framehop_callers.specs.Sound.ReturnsTo.{arrives, goes_on}
 use Rattle.framehop_callers.specs.Calls.{opened, noted}
-use Rattle.framehop_callers.specs.Step.{Source, After, goes, returns, given_up, at, on_at, changed, takes, with_loop, met, branched_by, branched, jumped, counted, passed_over_at, passed_over, with_calls, with_call_at, with_call, with_returns, with_return, entered, linked, is_entered, called, called_by_link, is_own_return, left_call, returned, returned_by, done, then_done, all_done, goes_by, returns_by, checked, stepped, stepped_by, step_in, step_of}
+use Rattle.framehop_callers.specs.Step.{Source, After, goes, returns, given_up, at, on_at, changed, takes, with_loop, met, branched_by, branched, jumped, counted, passed_over_at, passed_over, with_calls, with_call_at, with_call, with_returns, with_return, entered, linked, is_entered, called, called_by_link, is_own_return, left_call, returned, returned_by, done, then_done, all_done, goes_by, returns_by, checked, stepped, stepped_by, read_at, step_by, step_of}
 use Rattle.framehop_callers.proofs.StoreLemmas.{remembers-after}
 
 -- what the run knows of the processor's registers and memory
@@ -758,7 +758,7 @@ stepped-by-fits source forward state (Some actions) before now fits does =
 
 step-in-fits : (source : Source) (convention : Convention) (forward : Bool) (state : State) (before now : Machine)
     → Fits source.memory state before → Steps convention source forward state before now
-    → FitsAfter source.memory (step_in convention source forward state) now
+    → FitsAfter source.memory (step_by source forward state (read_at convention (source.code state.address))) now
 step-in-fits source X86_64 forward state before now fits steps =
     stepped-fits source forward state (action_at (source.code state.address) 0) before now fits steps
 step-in-fits source Aarch64 forward state before now fits steps =

@@ -1,11 +1,13 @@
 -- The caller of a frame by runs of its code to the function's return.
-use Rattle.std.specs.Prelude.{ℕ, zero, suc, ◌+◌, Bool, true, false, ◌==◌, ◌&&◌, if◌then◌else◌, List, [], Option, Some, None}
+use Rattle.std.specs.Prelude.{◌≡◌, ℕ, zero, suc, ◌+◌, Bool, true, false, ◌==◌, ◌&&◌, if◌then◌else◌, List, [], Option, Some, None}
 use Rattle.framehop_cfi.specs.declared.rule.Register.{Register}
 use Rattle.framehop_callers.specs.Caller.{is_same}
 use Rattle.framehop_callers.specs.RegisterFile.{word_of, with_word, unknown}
 use Rattle.framehop_callers.specs.declared.convention.Convention.{Convention}
 use Rattle.framehop_callers.specs.Convention.{program_counter_of}
 use Rattle.framehop_callers.specs.declared.run.RunCaller.{RunCaller}
+use Rattle.framehop_callers.specs.declared.run.Together.{Together}
+use Rattle.framehop_callers.specs.declared.run.Together.TheVariants.{Ends, Forks}
 use Rattle.framehop_callers.specs.declared.state.State.{State}
 use Rattle.framehop_callers.specs.State.{stack_pointer}
 use Rattle.framehop_callers.specs.Step.{Source, After, goes, returns, given_up, step_of}
@@ -37,6 +39,10 @@ caller_of convention state = record {
       (with_word state.registers (program_counter convention) (Some state.address));
 }
 
+-- how many instructions a run does at most
+abbrev pub MOST_STEPS : ℕ
+MOST_STEPS = 4096
+
 -- goes on after a step
 abbrev pub onward : Convention → (State → Option RunCaller) → After → Option RunCaller
 onward convention run (goes state) = run state
@@ -52,12 +58,15 @@ run_from source forward (suc n) state = onward source.convention (run_from sourc
 abbrev pub start : ℕ → List (Option ℕ) → State
 start address registers = record { address = address; registers = registers; writes = []; calls = []; after_calls = []; looped = 0 }
 
--- how many instructions a run does at most
-abbrev pub MOST_STEPS : ℕ
-MOST_STEPS = 4096
-
 unfoldable pub run_of : Source → Bool → ℕ → List (Option ℕ) → Option RunCaller
 run_of source forward address registers = run_from source forward MOST_STEPS (start address registers)
+
+-- What both runs from a first state come to by the part of them that is one: to this caller, or to what they come to from
+-- another state on, in so many instructions.
+abbrev pub IsTogether : Source → State → State → Together → Type 0
+IsTogether source first state (Ends caller) = (forward : Bool) → run_from source forward MOST_STEPS first ≡ caller
+IsTogether source first state (Forks left) =
+    (forward : Bool) → run_from source forward MOST_STEPS first ≡ run_from source forward left state
 
 -- two callers agree in return address and stack pointer
 abbrev pub agree : Convention → RunCaller → RunCaller → Bool

@@ -15,6 +15,8 @@ use Rattle.framehop_callers.specs.declared.convention.Convention.{Convention}
 use Rattle.framehop_callers.specs.declared.convention.Convention.TheVariants.{X86_64, Aarch64}
 use Rattle.framehop_callers.specs.Convention.{scratch_of}
 use Rattle.framehop_callers.specs.declared.state.State.{State}
+use Rattle.framehop_callers.specs.declared.step.Read.{Read}
+use Rattle.framehop_callers.specs.declared.step.Read.TheVariants.{X86_64 as ReadX86_64, Aarch64 as ReadAarch64}
 use Rattle.framehop_callers.specs.declared.step.Step.{Step}
 use Rattle.framehop_callers.specs.declared.step.Step.TheVariants.{Goes, Returns, GivenUp}
 use Rattle.framehop_callers.specs.Calls.{is_none, opened, has, noted, without}
@@ -234,10 +236,43 @@ stepped_by source forward state (Some actions) =
     checked source.convention (all_done source forward state (sum state.address 4) actions)
 stepped_by source forward state None = given_up
 
-abbrev pub step_in : Convention → Source → Bool → State → After
-step_in X86_64 source forward state = stepped source forward state (action_at (source.code state.address) 0)
-step_in Aarch64 source forward state = stepped_by source forward state (actions_at (source.code state.address) 0)
+-- what is read at an address of code, by the code from there on
+abbrev pub read_at : Convention → List ℕ → Read
+read_at X86_64 code = ReadX86_64 (action_at code 0)
+read_at Aarch64 code = ReadAarch64 (actions_at code 0)
+
+-- a step by what was read at the state's address
+abbrev pub step_by : Source → Bool → State → Read → After
+step_by source forward state (ReadX86_64 instruction) = stepped source forward state instruction
+step_by source forward state (ReadAarch64 actions) = stepped_by source forward state actions
 
 -- the step by the instruction at the state's address
 unfoldable pub step_of : Source → Bool → State → After
-step_of source forward state = step_in source.convention source forward state
+step_of source forward state = step_by source forward state (read_at source.convention (source.code state.address))
+
+-- where the two runs go different ways: at a conditional jump
+abbrev pub is_branch : Action → Bool
+is_branch (action.Branch address) = true
+is_branch (action.Loop address) = true
+is_branch (action.Move to from width) = false
+is_branch (action.Compute computation to from width) = false
+is_branch (action.Push from) = false
+is_branch (action.Pop to) = false
+is_branch action.Leave = false
+is_branch (action.Forget registers stored) = false
+is_branch (action.Jump from) = false
+is_branch (action.Call from) = false
+is_branch (action.Return bytes) = false
+is_branch (action.BranchWithLink from) = false
+is_branch (action.ReturnTo register) = false
+
+abbrev pub is_branch_too : Option Action → Bool
+is_branch_too (Some action) = is_branch action
+is_branch_too None = false
+
+abbrev pub is_conditional : Read → Bool
+is_conditional (ReadX86_64 (Some instruction)) = is_branch instruction.action
+is_conditional (ReadX86_64 None) = false
+is_conditional (ReadAarch64 (Some actions)) =
+    is_branch actions.first || is_branch_too actions.second || is_branch_too actions.third
+is_conditional (ReadAarch64 None) = false

@@ -31,6 +31,15 @@ impl Calls {
         }
     }
 
+    /// Returns the same calls.
+    pub(crate) fn copied(&self) -> Self
+        ensures { result ≡ self.now }
+    {
+        let mut words = ArrayVec::new();
+        let _fits = words.try_extend_from_slice(self.words.as_slice()).is_ok();
+        Calls { words }
+    }
+
     /// Returns whether no call is open.
     pub(crate) fn is_none(&self) -> bool
         ensures { result ≡ is_none self.now }

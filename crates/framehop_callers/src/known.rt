@@ -43,6 +43,15 @@ impl Writes {
         }
     }
 
+    /// Returns the same writes.
+    pub(crate) fn copied(&self) -> Self
+        ensures { result ≡ self.now }
+    {
+        let mut kept = ArrayVec::new();
+        let _fits = kept.try_extend_from_slice(self.kept.as_slice()).is_ok();
+        Writes { kept }
+    }
+
     /// Returns the number of 8 or 4 bytes at an address (AVMA), or `None` where it isn't known.
     pub(crate) fn load<M: WordMemory>(&self, memory: &M, address: u64, bytes: u64) -> Option<u64>
         ensures { result ≡ loaded (M.memory memory.now) self.now address bytes }

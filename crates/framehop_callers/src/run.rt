@@ -2,15 +2,13 @@
 ghost use Rattle.std.specs.Prelude.{◌≡◌, IfSome, true, false};
 ghost use Rattle.framehop_callers.specs.Caller.{is_same};
 ghost use Rattle.framehop_callers.specs.RegisterFile.{word_of, unknown};
-ghost use Rattle.framehop_callers.specs.Run.{MOST_STEPS, alike, alike_below, common, caller_of, run_from, run_of, agree, both, agreed, caller_by_runs};
+ghost use Rattle.framehop_callers.specs.Run.{alike, alike_below, common, caller_of, run_from, IsTogether, agree, both, agreed, caller_by_runs};
 ghost use Rattle.framehop_callers.specs.Sound.{IsSound};
 
-use crate::calls::Calls;
 use crate::convention::Convention;
-use crate::known::Writes;
 use crate::register_file::RegisterFile;
 use crate::state::State;
-use crate::step::{RunMemory, Step};
+use crate::step::{Read, RunMemory, Step};
 use framehop_cfi::rule::Register;
 
 /// How many instructions a run does at most.
@@ -29,8 +27,8 @@ pub struct RunCaller {
 /// where the run is given up before the function returns, or where runs come to different callers.
 ///
 /// Two runs are made: one takes a conditional jump only where it meets it again, the other each that leads forward, and those
-/// that lead back once. Where both return they must agree in return address and stack pointer, and what is known of a register
-/// is what both know alike.
+/// that lead back once. Up to the first they are one. Where both return they must agree in return address and stack pointer,
+/// and what is known of a register is what both know alike.
 #[tactic(auto, unfolding(crate::specs::Run::caller_by_runs))]
 pub fn caller_by_runs<M: RunMemory>(
     memory: &M,
@@ -40,40 +38,78 @@ pub fn caller_by_runs<M: RunMemory>(
     ensures exact { result ≡ caller_by_runs (record { convention = M.convention memory.now; memory = M.WordMemory.memory memory.now; code = M.code memory.now; is_covered = M.covers memory.now }) address registers.now }
     ensures sound { IfSome result (IsSound (record { convention = M.convention memory.now; memory = M.WordMemory.memory memory.now; code = M.code memory.now; is_covered = M.covers memory.now }) address registers.now) }
 {
-    let straight = run(memory, false, address, registers);
-    let forward = run(memory, true, address, registers);
+    let mut state = State::new(address, registers);
+    match run_together(memory, &mut state) {
+        Together::Ends(caller) => ended(memory.convention(), caller),
+        Together::Forks(left) => run_both(memory, &mut state, left),
+    }
+}
+
+/// Returns the caller of both runs where both come to this one, or are given up.
+fn ended(convention: Convention, caller: Option<RunCaller>) -> Option<RunCaller>
+    ensures { result ≡ agreed convention caller caller }
+{
+    let caller = caller?;
+    if agree(convention, &caller, &caller) {
+        Some(both(convention, &caller, &caller))
+    } else {
+        None
+    }
+}
+
+/// Returns the caller that both runs from a state come to in so many instructions.
+fn run_both<M: RunMemory>(memory: &M, state: &mut State, left: u32) -> Option<RunCaller>
+    ensures { result ≡ agreed (M.convention memory.now)
+        (run_from (record { convention = M.convention memory.now; memory = M.WordMemory.memory memory.now; code = M.code memory.now; is_covered = M.covers memory.now }) false left state.old) (run_from (record { convention = M.convention memory.now; memory = M.WordMemory.memory memory.now; code = M.code memory.now; is_covered = M.covers memory.now }) true left state.old) }
+{
+    let mut other = state.copied();
+    let straight = run_from(memory, false, state, left);
+    let forward = run_from(memory, true, &mut other, left);
     agreed(memory.convention(), straight, forward)
 }
 
-/// Returns the caller that a run comes to.
-#[tactic(auto, unfolding(crate::specs::Run::run_of))]
-fn run<M: RunMemory>(
-    memory: &M,
-    forward: bool,
-    address: u64,
-    registers: &RegisterFile,
-) -> Option<RunCaller>
-    ensures { result ≡ run_of (record { convention = M.convention memory.now; memory = M.WordMemory.memory memory.now; code = M.code memory.now; is_covered = M.covers memory.now }) forward address registers.now }
-{
-    let mut state = State {
-        address,
-        registers: *registers,
-        writes: Writes::new(),
-        calls: Calls::new(),
-        after_calls: Calls::new(),
-        looped: 0,
-    };
-    run_from(memory, forward, &mut state)
+/// How the two runs go on together.
+enum Together {
+    /// Both come to this caller, or both are given up.
+    Ends(Option<RunCaller>),
+    /// They meet a conditional jump, and may do so many instructions from there on.
+    Forks(u32),
 }
 
-/// Returns the caller that a run from a state comes to.
-fn run_from<M: RunMemory>(memory: &M, forward: bool, state: &mut State) -> Option<RunCaller>
-    ensures { result ≡ run_from (record { convention = M.convention memory.now; memory = M.WordMemory.memory memory.now; code = M.code memory.now; is_covered = M.covers memory.now }) forward MOST_STEPS state.old }
+/// Goes on with a state up to the first conditional jump, where the two runs fork.
+fn run_together<M: RunMemory>(memory: &M, state: &mut State) -> Together
+    ensures { IsTogether (record { convention = M.convention memory.now; memory = M.WordMemory.memory memory.now; code = M.code memory.now; is_covered = M.covers memory.now }) state.old state.new result }
 {
     let mut left = MOST_STEPS;
     while left > 0 {
+        let read = Read::at(memory, state.address);
+        if read.is_conditional() {
+            return Together::Forks(left);
+        }
         left -= 1;
-        match state.step(memory, forward) {
+        match state.step(memory, false, read) {
+            Step::Goes => (),
+            Step::Returns => return Together::Ends(Some(caller_of(memory.convention(), state))),
+            Step::GivenUp => return Together::Ends(None),
+        }
+    }
+    Together::Ends(None)
+}
+
+/// Returns the caller that a run from a state comes to in so many instructions.
+fn run_from<M: RunMemory>(
+    memory: &M,
+    forward: bool,
+    state: &mut State,
+    most: u32,
+) -> Option<RunCaller>
+    ensures { result ≡ run_from (record { convention = M.convention memory.now; memory = M.WordMemory.memory memory.now; code = M.code memory.now; is_covered = M.covers memory.now }) forward most state.old }
+{
+    let mut left = most;
+    while left > 0 {
+        left -= 1;
+        let read = Read::at(memory, state.address);
+        match state.step(memory, forward, read) {
             Step::Goes => (),
             Step::Returns => return Some(caller_of(memory.convention(), state)),
             Step::GivenUp => return None,

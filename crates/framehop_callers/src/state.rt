@@ -1,6 +1,7 @@
 //! What a run knows between two instructions.
 ghost use Rattle.std.specs.Prelude.{◌≡◌, ◌<◌, None, option_map, if◌then◌else◌};
 ghost use Rattle.framehop_callers.specs.RegisterFile.{with_word};
+ghost use Rattle.framehop_callers.specs.Run.{start};
 ghost use Rattle.framehop_callers.specs.State.{sum, bytes_of, low, sign_extended, computed, computed_of, base_of, index_of, start_of, sum_of, address_of, place_of, number_at, operand_of, value_of, left_by, with_register, with_bytes, put, pushed, raised_by, word_at, popped, leaving, is_in, forgotten_below, forgotten};
 
 use crate::calls::Calls;
@@ -31,6 +32,34 @@ pub struct State {
 }
 
 impl State {
+    /// Returns where a run begins: at an address (AVMA), with these registers.
+    pub(crate) fn new(address: u64, registers: &RegisterFile) -> Self
+        ensures { result ≡ start address registers.now }
+    {
+        State {
+            address,
+            registers: *registers,
+            writes: Writes::new(),
+            calls: Calls::new(),
+            after_calls: Calls::new(),
+            looped: 0,
+        }
+    }
+
+    /// Returns a copy.
+    pub(crate) fn copied(&self) -> Self
+        ensures { result ≡ self.now }
+    {
+        State {
+            address: self.address,
+            registers: self.registers,
+            writes: self.writes.copied(),
+            calls: self.calls.copied(),
+            after_calls: self.after_calls.copied(),
+            looped: self.looped,
+        }
+    }
+
     /// Returns the value of a source, if it is known. `next` is the address of the next instruction (AVMA).
     pub(crate) fn value_of<M: WordMemory>(
         &self,

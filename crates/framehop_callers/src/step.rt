@@ -4,7 +4,7 @@ ghost use Rattle.framehop_code.specs.X86_64.Action.{action_at};
 ghost use Rattle.framehop_code.specs.Aarch64.Action.{actions_at};
 ghost use Rattle.framehop_callers.specs.State.{left_by};
 ghost use Rattle.framehop_callers.specs.declared.convention.Convention.{Convention};
-ghost use Rattle.framehop_callers.specs.Step.{Source as RunSource, after, on_at, changed, takes, with_loop, met, branched, jumped, counted, passed_over, with_call_at, entered, linked, is_entered, has_some, called, called_by_link, returned, returned_by, is_own_return, returned_to, done, then_done, all_done, checked, stepped, stepped_by, step_of};
+ghost use Rattle.framehop_callers.specs.Step.{Source as RunSource, after, on_at, changed, takes, with_loop, met, branched, jumped, counted, passed_over, with_call_at, entered, linked, is_entered, has_some, called, called_by_link, returned, returned_by, is_own_return, returned_to, done, then_done, all_done, checked, stepped, stepped_by, read_at, is_branch, is_conditional, step_by};
 
 use crate::convention::Convention;
 use crate::memory::WordMemory;
@@ -60,36 +60,59 @@ pub enum Step {
     GivenUp,
 }
 
-impl State {
-    /// Does the instruction at the state's address. Where `forward` is set it takes conditional jumps, else only
-    /// where it meets them again.
-    #[tactic(auto, unfolding(crate::specs::Step::step_of))]
-    pub(crate) fn step<M: RunMemory>(&mut self, memory: &M, forward: bool) -> Step
-        ensures { after result self.new ≡ step_of (record { convention = M.convention memory.now; memory = M.WordMemory.memory memory.now; code = M.code memory.now; is_covered = M.covers memory.now }) forward self.old }
+/// What is read at an address of code.
+#[derive(Clone, Copy)]
+pub(crate) enum Read {
+    /// An instruction of x86_64, if it is described.
+    X86_64(Option<Instruction>),
+    /// What an instruction of aarch64 does, if it is described.
+    Aarch64(Option<Actions>),
+}
+
+impl Read {
+    /// Reads the instruction at an address (AVMA).
+    pub(crate) fn at<M: RunMemory>(memory: &M, address: u64) -> Self
+        ensures { result ≡ read_at (M.convention memory.now) (M.code memory.now address) }
     {
         match memory.convention() {
-            Convention::X86_64 => self.step_x86_64(memory, forward),
-            Convention::Aarch64 => self.step_aarch64(memory, forward),
+            Convention::X86_64 => Read::X86_64(memory.instruction_at(address)),
+            Convention::Aarch64 => Read::Aarch64(actions_at(memory.code_at(address), 0)),
         }
     }
 
-    /// Does the instruction of x86_64 at the state's address.
-    fn step_x86_64<M: RunMemory>(&mut self, memory: &M, forward: bool) -> Step
-        ensures { after result self.new ≡ stepped (record { convention = M.convention memory.now; memory = M.WordMemory.memory memory.now; code = M.code memory.now; is_covered = M.covers memory.now }) forward self.old (action_at (M.code memory.now self.old.address) 0) }
+    /// Returns whether it is a conditional jump: what it leads to differs in the two runs.
+    pub(crate) fn is_conditional(&self) -> bool
+        ensures { result ≡ is_conditional self.now }
     {
-        match memory.instruction_at(self.address) {
-            Some(instruction) => self.step_by(memory, forward, instruction),
-            None => Step::GivenUp,
+        match self {
+            Read::X86_64(Some(instruction)) => is_branch(instruction.action),
+            Read::Aarch64(Some(actions)) => {
+                is_branch(actions.first)
+                    || actions.second.is_some_and(is_branch)
+                    || actions.third.is_some_and(is_branch)
+            }
+            Read::X86_64(None) | Read::Aarch64(None) => false,
         }
     }
+}
 
-    /// Does the instruction of aarch64 at the state's address.
-    fn step_aarch64<M: RunMemory>(&mut self, memory: &M, forward: bool) -> Step
-        ensures { after result self.new ≡ stepped_by (record { convention = M.convention memory.now; memory = M.WordMemory.memory memory.now; code = M.code memory.now; is_covered = M.covers memory.now }) forward self.old (actions_at (M.code memory.now self.old.address) 0) }
+/// Returns whether an action is a conditional jump.
+fn is_branch(action: Action) -> bool
+    ensures { result ≡ is_branch action }
+{
+    matches!(action, Action::Branch(_) | Action::Loop(_))
+}
+
+impl State {
+    /// Does an instruction that was read at the state's address. Where `forward` is set it takes conditional jumps, else only
+    /// where it meets them again.
+    pub(crate) fn step<M: RunMemory>(&mut self, memory: &M, forward: bool, read: Read) -> Step
+        ensures { after result self.new ≡ step_by (record { convention = M.convention memory.now; memory = M.WordMemory.memory memory.now; code = M.code memory.now; is_covered = M.covers memory.now }) forward self.old read }
     {
-        match actions_at(memory.code_at(self.address), 0) {
-            Some(actions) => self.step_by_actions(memory, forward, actions),
-            None => Step::GivenUp,
+        match read {
+            Read::X86_64(Some(instruction)) => self.step_by(memory, forward, instruction),
+            Read::Aarch64(Some(actions)) => self.step_by_actions(memory, forward, actions),
+            Read::X86_64(None) | Read::Aarch64(None) => Step::GivenUp,
         }
     }
 

@@ -1,29 +1,32 @@
 use Rattle.std.proofs.Common.{◌≡◌, ℕ, sym, ◌∙◌, arith, subst}
 use Rattle.framehop_callers.specs.Step.{Source, goes, given_up}
 use Rattle.framehop_callers.specs.Step as step
-use Rattle.framehop_callers.specs.Run.{MOST_STEPS, run_from}
-use Rattle.framehop_callers.proofs.Runs.{after_step, no_step}
+use Rattle.framehop_callers.specs.Run.{run_from}
+use Rattle.framehop_callers.proofs.Runs.{after_step, no_step, read_step}
 use Rattle.framehop_callers.proofs.run.run_from.Goals as goal
 
 pub loop-left-preserved : goal.loop-left-preserved
 loop-left-preserved g c =
     let source : Source = record { convention = g.M.RunMemory.convention c.args.memory.now; memory = g.M.WordMemory.memory c.args.memory.now; code = g.M.RunMemory.code c.args.memory.now; is_covered = g.M.RunMemory.covers c.args.memory.now } in
-    after_step source c.args.forward c.loop-left.left c.loop-left.state (goes c.step.new.self) _ c.loop-left-test.true c.in-Goes.ensures c.loop-left.invariant
+    let taken = read_step source c.args.forward c.loop-left.state c.at-read.result (goes c.step.new.self) c.at-read.ensures c.in-Goes.ensures in
+    after_step source c.args.forward c.loop-left.left c.loop-left.state (goes c.step.new.self) _ c.loop-left-test.true taken c.loop-left.invariant
 
 pub returns-in-Returns : goal.returns-in-Returns
 returns-in-Returns g c =
     let source : Source = record { convention = g.M.RunMemory.convention c.args.memory.now; memory = g.M.WordMemory.memory c.args.memory.now; code = g.M.RunMemory.code c.args.memory.now; is_covered = g.M.RunMemory.covers c.args.memory.now } in
+    let taken = read_step source c.args.forward c.loop-left.state c.at-read.result (step.returns c.step.new.self) c.at-read.ensures c.in-Returns.ensures in
     rw c.caller_of.ensures (rw c.convention.ensures
-    (after_step source c.args.forward c.loop-left.left c.loop-left.state (step.returns c.step.new.self) _ c.loop-left-test.true c.in-Returns.ensures c.loop-left.invariant))
+    (after_step source c.args.forward c.loop-left.left c.loop-left.state (step.returns c.step.new.self) _ c.loop-left-test.true taken c.loop-left.invariant))
 
 pub returns-in-GivenUp : goal.returns-in-GivenUp
 returns-in-GivenUp g c =
     let source : Source = record { convention = g.M.RunMemory.convention c.args.memory.now; memory = g.M.WordMemory.memory c.args.memory.now; code = g.M.RunMemory.code c.args.memory.now; is_covered = g.M.RunMemory.covers c.args.memory.now } in
-    after_step source c.args.forward c.loop-left.left c.loop-left.state given_up _ c.loop-left-test.true c.in-GivenUp.ensures c.loop-left.invariant
+    let taken = read_step source c.args.forward c.loop-left.state c.at-read.result given_up c.at-read.ensures c.in-GivenUp.ensures in
+    after_step source c.args.forward c.loop-left.left c.loop-left.state given_up _ c.loop-left-test.true taken c.loop-left.invariant
 
 pub returns : goal.returns
 returns g c =
     let source : Source = record { convention = g.M.RunMemory.convention c.args.memory.now; memory = g.M.WordMemory.memory c.args.memory.now; code = g.M.RunMemory.code c.args.memory.now; is_covered = g.M.RunMemory.covers c.args.memory.now } in
     let none : c.loop-left.left ≡ 0 = omega arith in
     sym (no_step source c.args.forward c.loop-left.state)
-    ∙ subst (λ (k : ℕ). run_from source c.args.forward k c.loop-left.state ≡ run_from source c.args.forward MOST_STEPS c.args.state.now) none c.loop-left.invariant
+    ∙ subst (λ (k : ℕ). run_from source c.args.forward k c.loop-left.state ≡ run_from source c.args.forward c.args.most c.args.state.now) none c.loop-left.invariant
