@@ -1,9 +1,10 @@
 -- Mappings in order: the last that starts at or below an address is before the place where their starts pass it.
-use Rattle.std.proofs.Common.{◌≡◌, ℕ, zero, suc, ◌<◌, ◌≤◌, true, false, nat_le, List, [], ◌∷◌, length, Option, Some, None, slice_index_or, refl, arith}
+use Rattle.std.proofs.Common.{◌≡◌, ℕ, zero, suc, ◌<◌, ◌≤◌, true, false, nat_le, List, [], ◌∷◌, length, Option, Some, None, slice_index_or, refl, ap, ◌∙◌, ◌==◌, ◌-◌, arith}
+use Rattle.std.proofs.lemmas.Bool.Decides.{nat_tests}
 use Rattle.std.specs.List.{fold, slice_get}
 use Rattle.std.specs.List.Sorted.{IsNonDecreasingBy}
 use Rattle.framehop_processes.specs.declared.mapping.Mapping.{Mapping}
-use Rattle.framehop_processes.specs.Constants.{later_by}
+use Rattle.framehop_processes.specs.Constants.{later_by, mapping_before}
 use Rattle.framehop_processes.specs.Mappings.{IsInOrder}
 use Rattle.framehop_processes.proofs.PlaceLemmas.{starts-from}
 
@@ -44,3 +45,13 @@ module _ (address : ℕ) where
       (last-before ms i (Some m) (omega (arith, few)) (λ k d h w. low (suc k) d (omega (arith, h)) (omega (arith, w)))
       (λ k d h w. high (suc k) d (omega (arith, h)) (omega (arith, w)))
       ∙ one-on m ms i found)
+
+less-one : (i : ℕ) → i ≡ suc i - 1
+less-one i = omega arith
+
+pub is-before : (ms : List Mapping) (i : ℕ) → before ms i None ≡ mapping_before ms i
+unfolding before
+is-before ms zero = refl
+is-before ms (suc i) =
+    let some : (suc i == 0) ≡ false = grind (arith, nat_tests) in
+    rw some (ap (slice_get ms) (less-one i))

@@ -1,5 +1,5 @@
 -- The data of the files that processes map, as far as no process changes it.
-use Rattle.std.specs.Prelude.{ℕ, ◌-◌, nat_le, List, length, Option, Some, None, option_and_then, if◌then◌else◌}
+use Rattle.std.specs.Prelude.{ℕ, ◌-◌, ◌==◌, nat_le, List, length, Option, Some, None, option_and_then, slice_get, if◌then◌else◌}
 use Rattle.std.specs.List.{fold}
 use Rattle.framehop_bytes.specs.Bytes.{le8}
 use Rattle.framehop_processes.specs.declared.mapping.Mapping.{Mapping}
@@ -30,6 +30,10 @@ later_by address found mapping = if nat_le mapping.start address then Some mappi
 
 abbrev pub last_by : ℕ → List Mapping → Option Mapping
 last_by address mappings = fold (later_by address) None mappings
+
+-- the mapping before a place
+abbrev pub mapping_before : List Mapping → ℕ → Option Mapping
+mapping_before mappings place = if place == 0 then None else slice_get mappings (place - 1)
 
 -- the word at an address, by the file of the last mapping that starts at or below it
 unfoldable pub constant_at : Files → List Mapping → ℕ → Option ℕ

@@ -2,7 +2,7 @@
 ghost use Rattle.std.specs.Prelude.{◌≡◌, IfOk};
 ghost use Rattle.framehop_processes.specs.Mappings.{IsInOrder};
 ghost use Rattle.framehop_processes.specs.ObjectFiles.{is_constant, part_of_section, constant_parts};
-ghost use Rattle.framehop_processes.specs.Constants.{first_word, constant_in_mapping, last_by, constant_at};
+ghost use Rattle.framehop_processes.specs.Constants.{first_word, constant_in_mapping, last_by, mapping_before, constant_at};
 
 use crate::Mapping;
 use crate::code::FilePart;
@@ -38,7 +38,20 @@ fn last_mapping(mappings: &[Mapping], address: u64) -> Option<Mapping>
     ensures { result ≡ last_by address mappings.now }
 {
     let place = mappings.partition_point(|mapping| mapping.start <= address);
-    mappings.get(place.checked_sub(1)?).copied()
+    mapping_before(mappings, place)
+}
+
+/// Returns the mapping before a place, if there is one.
+fn mapping_before(mappings: &[Mapping], place: usize) -> Option<Mapping>
+    ensures { result ≡ mapping_before mappings.now place }
+{
+    if place == 0 {
+        return None;
+    }
+    match mappings.get(place - 1) {
+        Some(mapping) => Some(*mapping),
+        None => None,
+    }
 }
 
 /// Returns the word at an address (AVMA) by the file of a mapping.

@@ -375,6 +375,7 @@ fn read_elf<'m>(alloc: Global, bytes: &[u8], wanted: &[u8]) -> Result<ObjectFile
         return Err(FileProblem::OtherBuildId);
     }
     let segments = loaded_segments(alloc, headers.segments.as_slice())?;
+    let constants = constant_parts(alloc, elf.sections())?;
     let symbols = read_all_symbols(alloc, elf)?;
     let frames = read_frames(alloc, elf)?;
     let frames_problem = frames.problem;
@@ -385,7 +386,7 @@ fn read_elf<'m>(alloc: Global, bytes: &[u8], wanted: &[u8]) -> Result<ObjectFile
         segments,
         entry: elf.header().e_entry,
         code: no_code(alloc),
-        constants: constant_parts(alloc, elf.sections())?,
+        constants,
         symbols,
         module,
         debug_frame,

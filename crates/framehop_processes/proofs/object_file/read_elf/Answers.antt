@@ -12,7 +12,7 @@ returns-clause-kept c =
     let contents : bytes_in c.in_ok-frames.frames.contents ≡ bytes_or_none (debug_frame_of view.elf) = search rules in
     let loaded = ap (module_in view.elf) contents in
     let debug_frame = ap (debug_frame_in view.elf) contents in
-    let placed : c.in_ok-constant_parts.result.items ≡ constant_parts view.elf.sections = search rules in
+    let placed : c.in_ok-constants.constants.items ≡ constant_parts view.elf.sections = search rules in
     let listed : c.in_ok-segments.segments.items ≡ loaded_segments_of view.segments = search rules in (
       elf_contents file view,
       ap (elf_contents_by file) read,
@@ -20,7 +20,7 @@ returns-clause-kept c =
         segments = search rules;
         entry = search rules;
         code = same ∙ ap (code_of file) listed;
-        constants = ap (λ f. map (part_view f) c.in_ok-constant_parts.result.items) whole ∙ ap (map (part_view file)) placed;
+        constants = ap (λ f. map (part_view f) c.in_ok-constants.constants.items) whole ∙ ap (map (part_view file)) placed;
         build_id = search rules;
         debug_link = search rules;
         frames_problem = search rules;
