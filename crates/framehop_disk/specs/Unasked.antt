@@ -17,16 +17,21 @@ SHT_PROGBITS = 1
 abbrev pub is_called : List ℕ → List ℕ → Bool
 is_called bytes name = starts_with nat_eq bytes (name ++ 0 ∷ [])
 
--- the name of a section with data, or of one that debuggers read
-unfoldable pub is_name_unasked : List ℕ → Bool
-is_name_unasked bytes =
-    is_called bytes (codes ".rodata") || is_called bytes (codes ".data")
+-- of data that no process changes so many bytes are read: 4 MiB
+abbrev pub LARGEST_CONSTANTS : ℕ
+LARGEST_CONSTANTS = 0x400000
+
+-- the name of a section with data that a process changes or, by its size, much that it doesn't, or of one that debuggers
+-- read
+unfoldable pub is_name_unasked : List ℕ → ℕ → Bool
+is_name_unasked bytes size =
+    (is_called bytes (codes ".rodata") && nat_lt LARGEST_CONSTANTS size) || is_called bytes (codes ".data")
     || (starts_with nat_eq bytes (codes ".debug_") && not (is_called bytes (codes ".debug_frame")))
 
 -- such a section, which has bytes and no code
 abbrev pub is_unasked : List ℕ → SectionHeader → Bool
 is_unasked names section =
-    is_name_unasked (drop section.sh_name names) && (section.sh_type == SHT_PROGBITS)
+    is_name_unasked (drop section.sh_name names) section.sh_size && (section.sh_type == SHT_PROGBITS)
     && (bit_and section.sh_flags SHF_EXECINSTR == 0) && nat_lt 0 section.sh_size
 
 -- a file of a size has all bytes of a section

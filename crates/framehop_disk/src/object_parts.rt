@@ -47,7 +47,7 @@ struct Sections {
 }
 
 /// Reads a file of a size: of one of 1 MiB or more that is neither an ELF nor a PE file the first bytes, by which it is refused;
-/// of an ELF file with a build id, of 1 MiB or more, without `.rodata`, `.data` and its sections
+/// of an ELF file with a build id, of 1 MiB or more, without a `.rodata` above 4 MiB, `.data` and its sections
 /// `.debug_*` but for `.debug_frame`, where they come after all code. What comes after them moves to the front, and the section
 /// headers tell where to.
 pub(crate) fn read_object(rt: &HostRuntime, path: &str, size: u64) -> io::Result<Vec<u8>> {

@@ -14,6 +14,9 @@ use std::ops::Range;
 /// `SHT_PROGBITS`.
 const SHT_PROGBITS: u32 = 1;
 
+/// The size of the largest `.rodata` that is read, in bytes: 4 MiB. Code that is run may ask for its tables of jumps.
+const LARGEST_CONSTANTS: u64 = 0x40_0000;
+
 /// Returns the parts of a file of a size that nothing asks for, by its sections and their names. `None` where there are none,
 /// and where they are not apart and after the code, or one has a byte of another section.
 pub(crate) fn gaps_in(
@@ -78,23 +81,23 @@ pub(crate) fn is_inside(section: &SectionHeader, size: u64) -> bool
     section.sh_offset <= size && section.sh_size <= size - section.sh_offset
 }
 
-/// Returns whether neither unwinding nor names ask for a byte of a section: it has data that is no code, or only debuggers
-/// read it.
+/// Returns whether neither unwinding nor names ask for a byte of a section, or few do: it has data that a process changes, or
+/// much that it doesn't, or only debuggers read it.
 fn is_unasked(section: &SectionHeader, names: &[u8]) -> bool
     ensures { result ≡ is_unasked names.now section.now }
 {
-    is_name_unasked(back(names, u64::from(section.sh_name)))
+    is_name_unasked(back(names, u64::from(section.sh_name)), section.sh_size)
         && section.sh_type == SHT_PROGBITS
         && section.sh_flags & SHF_EXECINSTR == 0
         && section.sh_size > 0
 }
 
-/// Returns whether the name with which bytes begin is that of such a section.
+/// Returns whether the name with which bytes begin is that of such a section, which has a size.
 #[tactic(auto, unfolding(crate::specs::Unasked::is_name_unasked))]
-fn is_name_unasked(bytes: &[u8]) -> bool
-    ensures { result ≡ is_name_unasked bytes.now }
+fn is_name_unasked(bytes: &[u8], size: u64) -> bool
+    ensures { result ≡ is_name_unasked bytes.now size }
 {
-    bytes.starts_with(b".rodata\0")
+    (bytes.starts_with(b".rodata\0") && LARGEST_CONSTANTS < size)
         || bytes.starts_with(b".data\0")
         || (bytes.starts_with(b".debug_") && !bytes.starts_with(b".debug_frame\0"))
 }

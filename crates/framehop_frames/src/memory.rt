@@ -1,7 +1,7 @@
 //! The memory of a process with the code of the files that it maps.
 ghost use Rattle.std.specs.Prelude.{◌≡◌, ℕ, List, Bool, Option, option_map};
 ghost use Rattle.framehop_processes.specs.Place.{place_view};
-ghost use Rattle.framehop_frames.specs.Code.{bytes_from, bytes_at, instruction_in, start_in};
+ghost use Rattle.framehop_frames.specs.Code.{bytes_from, bytes_at, start_in};
 
 use framehop::walk::{StackBytes, Words};
 use framehop_backtrace::CodeMemory;
@@ -78,7 +78,10 @@ impl<K: KnownMemory, U: ProcessUnwinder> CodeMemory for MappedMemory<'_, '_, K, 
     fn code_at(&self, address: u64) -> &[u8] {
         match self.known.bytes_from(address) {
             Some(bytes) if self.is_executable(address) => front(bytes, MOST_BYTES),
-            _ => instruction_in(code_at(self.files, self.process.mappings(), address)),
+            _ => match code_at(self.files, self.process.mappings(), address) {
+                Some(code) => front(code, MOST_BYTES),
+                None => &[],
+            },
         }
     }
 
@@ -110,16 +113,6 @@ impl<K: KnownMemory, U: ProcessUnwinder> CodeMemory for MappedMemory<'_, '_, K, 
 
     fn instruction_of(&self, bytes: &[u8]) -> Option<Instruction> {
         self.files.instructions().action_at(bytes)
-    }
-}
-
-/// Returns the first bytes of code, as many as an instruction has at most: none where there is no code.
-fn instruction_in(code: Option<&[u8]>) -> &[u8]
-    ensures { result.now ≡ instruction_in (option_map (λ code. code.now) code) }
-{
-    match code {
-        Some(code) => front(code, MOST_BYTES),
-        None => &[],
     }
 }
 
