@@ -3,6 +3,7 @@
 use crate::small::{BUILD_ID, SMALL};
 use framehop_processes::Mapping;
 use framehop_processes::code::code_at;
+use framehop_processes::constants::constant_at;
 use framehop_processes::debug_frame::debug_frame_at;
 use framehop_processes::files::{FileSource, Files};
 use framehop_processes::object_file::{FileProblem, ObjectFile};
@@ -175,6 +176,43 @@ fn a_file_that_was_left_out_is_asked_for_at_its_addresses(rt: HostRuntime) {
     assert!(rt; is_asked_for(rt.alloc(), Look::Code(0x1000)) == Ok(true));
     assert!(rt; is_asked_for(rt.alloc(), Look::Rows(0x1000)) == Ok(true));
     assert!(rt; is_asked_for(rt.alloc(), Look::Place(0x2000)) == Ok(false));
+}
+
+/// A part of the program's code, as an input has it that tells of code only.
+const CODE_ONLY: [Mapping; 1] = [Mapping {
+    start: 0x7000_0040_0000,
+    end: 0x7000_0040_0120,
+    base_avma: 0x7000_0000_0000,
+    file: 0,
+    has_sections: true,
+}];
+
+/// Addresses, and the words there by `readelf -x` of the sections: of code, of data after it, over the end of a section, in
+/// no section, and below all mappings.
+const CONSTANTS: [(u64, Option<u64>); 5] = [
+    (0x7000_0040_010c, Some(0xffff_f7e8_c37f_048d)),
+    (0x7000_0040_0130, Some(0x14)),
+    (0x7000_0040_0126, None),
+    (0x7000_0040_0200, None),
+    (0x7000_003f_fff8, None),
+];
+
+/// Returns the word that the program has at an address (AVMA), if no process changes it.
+fn constant_of(alloc: Global, address: u64) -> Result<Option<u64>, AllocError> {
+    let source = OneFile {
+        alloc,
+        runs_out: false,
+    };
+    let mut files = Files::new(alloc)?;
+    files.add(alloc, &source, b"/bin/small", &[])?;
+    Ok(constant_at(&files, &CODE_ONLY, address))
+}
+
+#[test]
+fn has_the_words_that_no_process_changes(rt: HostRuntime) {
+    for (address, word) in &CONSTANTS {
+        assert!(rt; constant_of(rt.alloc(), *address) == Ok(*word), "{address:x}");
+    }
 }
 
 /// Whether the program has the name of a function at an address (SVMA), and where the function begins by its unwind data.
