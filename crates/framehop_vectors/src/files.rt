@@ -211,7 +211,10 @@ fn constant_of(alloc: Global, address: u64) -> Result<Option<u64>, AllocError> {
 #[test]
 fn has_the_words_that_no_process_changes(rt: HostRuntime) {
     for (address, word) in &CONSTANTS {
-        assert!(rt; constant_of(rt.alloc(), *address) == Ok(*word), "{address:x}");
+        assert!(rt;
+            constant_of(rt.alloc(), *address) == Ok(*word),
+            "{address:x}"
+        );
     }
 }
 
