@@ -1,8 +1,12 @@
 //! Modules of mappings in the place of those of other mappings.
-ghost use Rattle.std.specs.Prelude.{◌≡◌, ◌+◌, ◌-◌, ◌^◌, ◌<◌, ◌≤◌, length, map, slice_get, Some, None, true, IfErr, OnOk, IfSome, Ok};
-ghost use Rattle.framehop.specs.Modules.{with_module, has_start, without_module};
-ghost use Rattle.framehop_processes.specs.Mappings.{IsInOrder};
+ghost use Rattle.std.specs.Prelude.{◌≡◌, ◌+◌, ◌-◌, ◌^◌, ◌<◌, ◌≤◌, length, map, slice_get, Some, None, true, false, IfErr, OnOk, IfSome, Ok};
+ghost use Rattle.std.specs.List.{list_any};
+ghost use Rattle.framehop.specs.Modules.{ModuleView, with_module, has_start, without_module};
+ghost use Rattle.framehop_processes.specs.declared.mapping.Mapping.{Mapping};
+ghost use Rattle.framehop_processes.specs.Mappings.{IsInOrder, with_mapping, overlaps, left_by};
+ghost use Rattle.framehop_processes.specs.Process.{StartsAt};
 
+use crate::around::split_ending_by;
 use crate::error::ProcessesError;
 use crate::maker::ModuleMaker;
 use crate::mapping::Mapping;
@@ -101,6 +105,62 @@ fn next_step(old: &[Mapping], gone: usize, new: &[Mapping], come: usize) -> Opti
         return Some(Step::Keep);
     }
     Some(Step::Remove)
+}
+
+/// Takes the mapping that starts at an address (AVMA), if one is given, out of mappings, and its module out of an unwinder that
+/// has theirs.
+pub(crate) fn take_out<U: ProcessUnwinder>(
+    unwinder: &mut U,
+    mappings: &mut Vec<Mapping>,
+    gone: Option<u64>,
+    generation: u64,
+)
+    requires ordered { IsInOrder 0 mappings.old.items }
+    requires drawn { generation < 2 ^ 64 - 1 }
+    ensures left { mappings.new.items ≡ left_by gone mappings.old.items }
+    ensures ordered { IsInOrder 0 mappings.new.items }
+    ensures modules { (module_of : Mapping → ModuleView) → StartsAt module_of
+        → (U.unwinder_view unwinder.old).modules ≡ map module_of mappings.old.items
+        → (U.unwinder_view unwinder.new).modules ≡ map module_of mappings.new.items }
+{
+    let Some(start) = gone else {
+        return;
+    };
+    let index = split_ending_by(mappings.as_slice(), start).0.len();
+    if index < mappings.len() && mappings[index].start == start {
+        let mapping = mappings.remove(index);
+        remove_one(unwinder, &mapping, generation);
+    }
+}
+
+/// Puts a mapping that overlaps none among mappings, and its module into an unwinder that has theirs, which has a generation
+/// then that no other has.
+pub(crate) fn put_in<U: ProcessUnwinder, M: ModuleMaker<U>>(
+    alloc: Global,
+    unwinder: &mut U,
+    maker: &M,
+    mappings: &mut Vec<Mapping>,
+    new: Mapping,
+    generation: u64,
+) -> Result<(), ProcessesError>
+where
+    U::Module: Drop,
+    requires ordered { IsInOrder 0 mappings.old.items }
+    requires address { new.start < new.end }
+    requires apart { list_any (overlaps new) mappings.old.items ≡ false }
+    requires modules { (U.unwinder_view unwinder.old).modules ≡ map (M.module_of maker.now) mappings.old.items }
+    requires drawn { generation < 2 ^ 64 - 1 }
+    ensures mapped { OnOk result (mappings.new.items ≡ with_mapping new mappings.old.items) }
+    ensures modules { OnOk result (((U.unwinder_view unwinder.new).modules ≡ map (M.module_of maker.now) mappings.new.items)
+        × ((U.unwinder_view unwinder.new).generation ≡ generation)) }
+    ensures refused { IfErr result (λ error. error ≡ ProcessesError.OutOfMemory) }
+{
+    let index = split_ending_by(mappings.as_slice(), new.start).0.len();
+    add_one(alloc, unwinder, maker, &new, generation)?;
+    if mappings.insert(index, new).is_err() {
+        return Err(ProcessesError::OutOfMemory);
+    }
+    Ok(())
 }
 
 /// Removes the module of a mapping from an unwinder that has it, and gives it a generation.
