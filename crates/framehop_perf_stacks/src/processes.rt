@@ -332,7 +332,8 @@ impl<U: ProcessUnwinder> Processes<U> {
             return Err(StacksError::GenerationsExhausted);
         };
         let version = Version { number, made_of };
-        self.by_pid.insert(pid, MappedProcess { version, mappings })?;
+        self.by_pid
+            .insert(pid, MappedProcess { version, mappings })?;
         Ok(version)
     }
 
@@ -436,8 +437,8 @@ impl<U: ProcessUnwinder> Processes<U> {
             → IsServed module_of (λ view. U.is_sound view cache) self.new.ready self.new.generations) }
         ensures refused { IfErr result (λ error. error ≡ OutOfMemory) }
     {
-        self.ready.insert(version.number, process)?;
         self.latest = version;
+        self.ready.insert(version.number, process)?;
         Ok(())
     }
 }

@@ -3,8 +3,8 @@ use Rattle.framehop_perf_stacks.specs.Processes.{IsServed, IsFit}
 use Rattle.framehop_perf_stacks.proofs.ServedLemmas.{served-later, fit-new}
 use Rattle.framehop_perf_stacks.proofs.processes.Processes.make_ready.Goals as goal
 
-pub process_with-requires : goal.process_with-requires
-process_with-requires g c =
+pub process_with-requires-clause-modules : goal.process_with-requires-clause-modules
+process_with-requires-clause-modules g c =
     let module_of = g.M.ModuleMaker.module_of c.args.maker.now in
     let met : IsServed module_of (λ view. g.U.Unwinder.is_sound view c.requires.0) c.met.new.self.ready c.met.new.self.generations =
     rw c.met.ensures.ready (served-later module_of _ _ _ _ c.met.ensures.drawn.0 c.requires.1) in
