@@ -7,7 +7,7 @@ ghost use Rattle.framehop_processes.specs.Process.{HasModules, IsDrawn};
 
 use crate::around::{replace, split_ending_by, split_starting_below, with_mapping};
 use crate::error::ProcessesError;
-use crate::exchange::{exchange_modules, put_in, take_out};
+use crate::exchange::{exchange_modules, exchange_one};
 use crate::maker::ModuleMaker;
 use crate::mapping::Mapping;
 use crate::modules::{add_modules, made_modules, remove_modules};
@@ -234,8 +234,15 @@ impl<U: ProcessUnwinder> Process<U> {
         let Some(generation) = generations.next() else {
             return Err(ProcessesError::GenerationsExhausted);
         };
-        take_out(&mut unwinder, &mut mappings, gone, generation);
-        put_in(alloc, &mut unwinder, maker, &mut mappings, come, generation)?;
+        exchange_one(
+            alloc,
+            &mut unwinder,
+            maker,
+            &mut mappings,
+            gone,
+            come,
+            generation,
+        )?;
         Ok(Process { mappings, unwinder })
     }
 
