@@ -1,4 +1,4 @@
-use Rattle.std.proofs.Common.{false, rules, arith, ◌∙◌}
+use Rattle.std.proofs.Common.{false, arith}
 use Rattle.framehop_processes.specs.declared.mapping.Mapping.{Mapping}
 use Rattle.framehop_processes.proofs.ApartLemmas.{exchanged-up, exchanged-down}
 use Rattle.framehop_processes.proofs.around.exchange_at.Goals as goal

@@ -1,4 +1,4 @@
-use Rattle.std.proofs.Common.{◌≡◌, ◌<◌, List, length, map, rules, ap, sym, ◌∙◌}
+use Rattle.std.proofs.Common.{◌≡◌, ◌<◌, length, map, rules, ap, ◌∙◌}
 use Rattle.std.specs.List.{list_any, remove}
 use Rattle.framehop.specs.Modules.{ModuleView, with_module, has_start, without_module}
 use Rattle.framehop_processes.specs.declared.mapping.Mapping.{Mapping}

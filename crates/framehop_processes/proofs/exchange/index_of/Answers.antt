@@ -1,4 +1,4 @@
-use Rattle.std.proofs.Common.{◌≡◌, ◌<◌, List, length, get_or, false, Some, rules, arith, refl, ap, sym, ◌∙◌}
+use Rattle.std.proofs.Common.{◌≡◌, ◌<◌, length, get_or, false, Some, rules, arith, refl, ap, ◌∙◌}
 use Rattle.framehop_processes.specs.declared.mapping.Mapping.{Mapping}
 use Rattle.framehop_processes.specs.Mappings.{left_by}
 use Rattle.framehop_processes.proofs.ApartLemmas.{is-taken, none-taken}

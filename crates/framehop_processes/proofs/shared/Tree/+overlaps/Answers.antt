@@ -1,7 +1,7 @@
 use Rattle.std.proofs.Common.{◌≡◌, List, ◌∷◌, ◌++◌, rules, arith, length-append, subst}
 use Rattle.framehop_processes.specs.Mappings.{IsInOrder}
 use Rattle.framehop_processes.specs.declared.mapping.Mapping.{Mapping}
-use Rattle.framehop_processes.proofs.ApartLemmas.{overlaps-before, overlaps-after, overlaps-here}
+use Rattle.framehop_processes.proofs.ApartLemmas.{overlaps-before, overlaps-after}
 use Rattle.framehop_processes.proofs.MappingLemmas.{order-before, order-after}
 use Rattle.framehop_processes.proofs.shared.Tree.+overlaps.Goals as goal
 
