@@ -65,12 +65,12 @@ module _ {X Y E : Type 0} (old new : BTreeMap ℕ X) (key : ℕ) (value : X) whe
       none-put (is_at (nat_cmp key) other) value (get nat_cmp old other) (get nat_cmp new other) (updates.0 other) apart none
   none-after-put (Err error) updates kept other apart none = get-same old new other kept ∙ none
 
-pub left-one : {A : Type 0} (here : Bool) (found other : Option A) (y : A) → other ≡ cond here None found → other ≡ Some y
+left-one : {A : Type 0} (here : Bool) (found other : Option A) (y : A) → other ≡ cond here None found → other ≡ Some y
     → found ≡ Some y
 left-one true found other y is at = absurd (none-some y (sym is ∙ at))
 left-one false found other y is at = sym is ∙ at
 
-pub left-none : {A : Type 0} (here : Bool) (found other : Option A) → other ≡ cond here None found → found ≡ None → other ≡ None
+left-none : {A : Type 0} (here : Bool) (found other : Option A) → other ≡ cond here None found → found ≡ None → other ≡ None
 left-none true found other is none = is
 left-none false found other is none = is ∙ none
 
@@ -135,6 +135,28 @@ among-shared old new key parent shared is put pid process at = elim (put pid pro
 pub earlier-later : (ready : BTreeMap ℕ ProcessView) (next after : ℕ) → next ≤ after → AreEarlier ready next → AreEarlier ready after
 earlier-later ready next after more earlier number high = earlier number (omega (arith, high, more))
 
+-- ---- where what is ready was taken out
+
+-- each that is ready was before, where none is
+pub ready-none : (ready ready' : BTreeMap ℕ ProcessView) → ((number : ℕ) → get nat_cmp ready' number ≡ None) → AreReadyAmong ready ready'
+ready-none ready ready' none number made at = absurd (none-some made (sym (none number) ∙ at))
+
+module _ (processes : BTreeMap ℕ MappedProcess) (ready ready' : BTreeMap ℕ ProcessView) (latest : Version) (next key : ℕ)
+    (removed : (number : ℕ) → get nat_cmp ready' number ≡ cond (is_at (nat_cmp key) number) None (get nat_cmp ready number)) where
+  ready-fewer : AreReadyAmong ready ready'
+  ready-fewer number made at =
+      left-one (is_at (nat_cmp key) number) (get nat_cmp ready number) (get nat_cmp ready' number) made (removed number) at
+
+  pub known-fewer : AreKnownAmong processes ready latest processes ready' latest
+  known-fewer = known-among processes processes ready ready' latest (among-self processes) ready-fewer
+
+  pub have-fewer : HaveReady processes ready → HaveReady processes ready'
+  have-fewer = ready-among processes processes ready ready' (among-self processes) ready-fewer
+
+  pub earlier-fewer : AreEarlier ready next → AreEarlier ready' next
+  earlier-fewer earlier number high =
+      left-none (is_at (nat_cmp key) number) (get nat_cmp ready number) (get nat_cmp ready' number) (removed number) (earlier number high)
+
 -- ---- where mappings were put under the next number
 
 module _ (old new : BTreeMap ℕ MappedProcess) (ready : BTreeMap ℕ ProcessView) (latest : Version) (next : ℕ) (version : Version) (key : ℕ)
@@ -164,11 +186,9 @@ module _ (old new : BTreeMap ℕ MappedProcess) (ready : BTreeMap ℕ ProcessVie
   new-tells : (number : ℕ) (told : List Mapping) → Tells version mappings number told → ToldBefore number told
   new-tells number told (inl (is, are)) = inl (is ∙ numbered, are)
   new-tells number told (inr (of, has, is, are)) =
-      let from = rw has at made_of in
-      let pid = from.1.0 in
-      let process : MappedProcess = from.1.1.0 in
-      let there = from.1.1.1 in
-      inr (process.version, process.mappings, inl (pid, there.0), inl (is ∙ sym there.1, are ∙ sym there.2))
+      let from = (rw has at made_of).1 in
+      let process : MappedProcess = from.1 in
+      inr (process.version, process.mappings, inl (from.0, from.2), inl (is ∙ sym from.3, are ∙ sym from.4))
 
   told-put : (v : Version) (ms told : List Mapping) (number : ℕ) → AreKnown new ready latest v ms → Tells v ms number told → ToldBefore number told
   told-put v ms told number known tells = elim (known-put v ms known) [
@@ -179,7 +199,7 @@ module _ (old new : BTreeMap ℕ MappedProcess) (ready : BTreeMap ℕ ProcessVie
   pub drawn-put : (after : ℕ) → after ≡ next + 1 → AreDrawn new ready latest after
   drawn-put after more v ms told number known tells = elim (told-put v ms told number known tells) [
     | inl own ↦ let is = own.0 in omega (arith, is, more)
-    | inr was ↦ let low = drawn was.0 was.1 told number was.2.0 was.2.1 in omega (arith, low, more)
+    | inr was ↦ let low = drawn was.0 was.1 told number was.2 was.3 in omega (arith, low, more)
   ]
 
   pub same-put : HaveSame old ready latest → HaveSame new ready latest
@@ -188,15 +208,15 @@ module _ (old new : BTreeMap ℕ MappedProcess) (ready : BTreeMap ℕ ProcessVie
       | inl too ↦ own.1 ∙ sym too.1
       | inr was ↦ absurd (
           let is = own.0 in
-          let low = drawn was.0 was.1 told' number was.2.0 was.2.1 in
+          let low = drawn was.0 was.1 told' number was.2 was.3 in
           omega (arith, is, low))
     ]
     | inr was ↦ elim (told-put w ns told' number known' tells') [
       | inl too ↦ absurd (
           let is = too.0 in
-          let low = drawn was.0 was.1 told number was.2.0 was.2.1 in
+          let low = drawn was.0 was.1 told number was.2 was.3 in
           omega (arith, is, low))
-      | inr other ↦ same was.0 other.0 was.1 other.1 told told' number was.2.0 other.2.0 was.2.1 other.2.1
+      | inr other ↦ same was.0 other.0 was.1 other.1 told told' number was.2 other.2 was.3 other.3
     ]
   ]
 
@@ -258,3 +278,15 @@ exchange-leads processes ready latest version old new exchange of same made know
     let left : left_by exchange.gone old ≡ others =
     same latest version old new (left_by exchange.gone old) others of.number known known' tells (inr (of, has, refl, refl)) in
     rw (left, come) (made version new of known' has)
+
+-- where the last process that was made ready is given
+pub exchange-leads-if : (processes : BTreeMap ℕ MappedProcess) (ready : BTreeMap ℕ ProcessView) (latest version : Version) (new : List Mapping)
+    (near : Option ProcessView) (exchange : Option Exchange) → HaveSame processes ready latest → AreMade processes ready latest
+    → AreKnown processes ready latest version new → IfSome near (λ p. get nat_cmp ready latest.number ≡ Some p)
+    → IfSome exchange (λ e. (of : MadeOf) × (version.made_of ≡ Some of) × (e.come ≡ of.mapping)
+    × ((mappings : List Mapping) → Tells latest mappings of.number (left_by e.gone mappings)))
+    → IfSome near (λ p. IfSome exchange (λ e. LeadsTo e p.mappings new))
+exchange-leads-if processes ready latest version new (Some p) (Some e) same made known at told =
+    exchange-leads processes ready latest version p.mappings new e told.0 same made (inr (refl, p, at, refl)) known told.1 told.2 (told.3 p.mappings)
+exchange-leads-if processes ready latest version new (Some p) None same made known at told = tt
+exchange-leads-if processes ready latest version new None exchange same made known at told = tt

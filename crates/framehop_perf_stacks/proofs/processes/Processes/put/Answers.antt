@@ -45,3 +45,15 @@ invariant_of-self-2-clause-earlier g c =
     let mine = c.args.self.now in
     let more = c.in-Some.ensures.2 in
     earlier-later mine.ready mine.generations c.next.new.self (omega (arith, more)) mine.earlier
+
+pub invariant_of-self-clause-drawn : goal.invariant_of-self-clause-drawn
+invariant_of-self-clause-drawn g c = λ version mappings told number known tells.
+    let low = c.args.self.now.drawn version mappings told number known tells in
+    let same = c.in_default.ensures.1 in
+    omega (arith, low, same)
+
+pub invariant_of-self-clause-earlier : goal.invariant_of-self-clause-earlier
+invariant_of-self-clause-earlier g c =
+    let mine = c.args.self.now in
+    let same = c.in_default.ensures.1 in
+    earlier-later mine.ready mine.generations c.next.new.self (omega (arith, same)) mine.earlier
