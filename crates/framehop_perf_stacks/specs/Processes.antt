@@ -1,13 +1,17 @@
 -- The processes of a recording at a time, and what a change does to them.
-use Rattle.std.specs.Prelude.{◌≡◌, ℕ, ◌<◌, ◌≤◌, ◌==◌, if◌then◌else◌, List, [], Option, Some, None, option_map, option_and_then, unwrap_or, IfSome}
+use Rattle.std.specs.Prelude.{◌≡◌, ◌⊎◌, ℕ, ◌<◌, ◌≤◌, ◌==◌, false, if◌then◌else◌, List, [], Option, Some, None, option_map, option_and_then, unwrap_or, IfSome}
+use Rattle.std.specs.List.{list_any}
 use Rattle.std.specs.BTreeMap.{BTreeMap, get}
 use Rattle.std.specs.Ordering.{nat_cmp}
 use Rattle.framehop.specs.Modules.{ModuleView, UnwinderView}
 use Rattle.framehop.specs.Soundness.{AreApart}
-use Rattle.framehop_processes.specs.Mappings.{with_mapping}
+use Rattle.framehop_processes.specs.Mappings.{with_mapping, overlaps, starting_elsewhere, left_by}
 use Rattle.framehop_processes.specs.Process.{ProcessView, HasModules}
 use Rattle.framehop_processes.specs.declared.mapping.Mapping.{Mapping}
+use Rattle.framehop_perf_stacks.specs.declared.processes.Exchange.{Exchange}
+use Rattle.framehop_perf_stacks.specs.declared.processes.MadeOf.{MadeOf}
 use Rattle.framehop_perf_stacks.specs.declared.processes.MappedProcess.{MappedProcess}
+use Rattle.framehop_perf_stacks.specs.declared.processes.Version.{Version}
 use Rattle.framehop_perf_stacks.specs.declared.changes.Change.{Change}
 use Rattle.framehop_perf_stacks.specs.declared.changes.Change.TheVariants.{Map, Begin, Fork}
 
@@ -20,21 +24,55 @@ mapped_in processes pid = unwrap_or (option_map (λ process. process.mappings) (
 
 -- the process that is ready for the mappings of a number
 abbrev pub ready_in : BTreeMap ℕ MappedProcess → BTreeMap ℕ ProcessView → ℕ → Option ProcessView
-ready_in processes ready pid = option_and_then (λ process. get nat_cmp ready process.number) (get nat_cmp processes pid)
+ready_in processes ready pid = option_and_then (λ process. get nat_cmp ready process.version.number) (get nat_cmp processes pid)
 
--- the numbers of processes were drawn from a counter before
-abbrev pub AreDrawn : BTreeMap ℕ MappedProcess → ℕ → Type 0
-AreDrawn processes next = (pid : ℕ) (process : MappedProcess) → get nat_cmp processes pid ≡ Some process → process.number < next
+-- a mapping that has an address makes mappings out of those that are given, of which it overlaps none
+abbrev pub IsOneMore : Mapping → List Mapping → List Mapping → Type 0
+IsOneMore mapping others mappings = (mapping.start < mapping.end) × (list_any (overlaps mapping) others ≡ false)
+    × (with_mapping mapping others ≡ mappings)
 
--- processes of one number have the same mappings
-abbrev pub HaveSame : BTreeMap ℕ MappedProcess → Type 0
-HaveSame processes = (pid other : ℕ) (process second : MappedProcess) → get nat_cmp processes pid ≡ Some process
-    → get nat_cmp processes other ≡ Some second → process.number ≡ second.number → process.mappings ≡ second.mappings
+-- an exchange makes mappings out of others
+abbrev pub LeadsTo : Exchange → List Mapping → List Mapping → Type 0
+LeadsTo exchange old new = IsOneMore exchange.come (left_by exchange.gone old) new
 
--- and so has the one that is ready for the number
+-- mappings are those of the number of a process, and one more
+abbrev pub IsMadeOf : BTreeMap ℕ MappedProcess → List Mapping → MadeOf → Type 0
+IsMadeOf processes mappings of = IsOneMore of.mapping (starting_elsewhere of.mapping.start mappings) mappings
+    × ((pid : ℕ) × (process : MappedProcess) × (get nat_cmp processes pid ≡ Some process) × (process.version.number ≡ of.number)
+    × (process.mappings ≡ starting_elsewhere of.mapping.start mappings))
+
+-- the mappings of a number, as those of a version tell them: these themselves, or what they were made of
+abbrev pub Tells : Version → List Mapping → ℕ → List Mapping → Type 0
+Tells version mappings number told = ((number ≡ version.number) × (told ≡ mappings))
+    ⊎ ((of : MadeOf) × (version.made_of ≡ Some of) × (number ≡ of.number) × (told ≡ starting_elsewhere of.mapping.start mappings))
+
+-- a process has mappings of a version, or the last that was made ready has
+abbrev pub AreKnown : BTreeMap ℕ MappedProcess → BTreeMap ℕ ProcessView → Version → Version → List Mapping → Type 0
+AreKnown processes ready latest version mappings =
+    ((pid : ℕ) × (get nat_cmp processes pid ≡ Some (record { version = version; mappings = mappings })))
+    ⊎ ((version ≡ latest) × (made : ProcessView) × (get nat_cmp ready latest.number ≡ Some made) × (mappings ≡ made.mappings))
+
+-- the numbers that they tell of were drawn from a counter before
+abbrev pub AreDrawn : BTreeMap ℕ MappedProcess → BTreeMap ℕ ProcessView → Version → ℕ → Type 0
+AreDrawn processes ready latest next = (version : Version) (mappings told : List Mapping) (number : ℕ)
+    → AreKnown processes ready latest version mappings → Tells version mappings number told → number < next
+
+-- they tell the same of one number
+abbrev pub HaveSame : BTreeMap ℕ MappedProcess → BTreeMap ℕ ProcessView → Version → Type 0
+HaveSame processes ready latest = (version other : Version) (mappings others told same : List Mapping) (number : ℕ)
+    → AreKnown processes ready latest version mappings → AreKnown processes ready latest other others
+    → Tells version mappings number told → Tells other others number same → told ≡ same
+
+-- and they were made by one mapping more
+abbrev pub AreMade : BTreeMap ℕ MappedProcess → BTreeMap ℕ ProcessView → Version → Type 0
+AreMade processes ready latest = (version : Version) (mappings : List Mapping) (of : MadeOf)
+    → AreKnown processes ready latest version mappings → version.made_of ≡ Some of
+    → IsOneMore of.mapping (starting_elsewhere of.mapping.start mappings) mappings
+
+-- one that is ready for the number of a process has its mappings
 abbrev pub HaveReady : BTreeMap ℕ MappedProcess → BTreeMap ℕ ProcessView → Type 0
 HaveReady processes ready = (pid : ℕ) (process : MappedProcess) (made : ProcessView) → get nat_cmp processes pid ≡ Some process
-    → get nat_cmp ready process.number ≡ Some made → made.mappings ≡ process.mappings
+    → get nat_cmp ready process.version.number ≡ Some made → made.mappings ≡ process.mappings
 
 -- none is ready for a number that was not drawn
 abbrev pub AreEarlier : BTreeMap ℕ ProcessView → ℕ → Type 0

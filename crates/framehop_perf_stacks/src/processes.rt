@@ -1,14 +1,14 @@
 //! The processes of a recording at a time.
-ghost use Rattle.std.specs.Prelude.{◌≡◌, ◌<◌, ◌≤◌, ◌+◌, ◌-◌, ◌^◌, ◌⊎◌, ℕ, IfOk, IfErr, ◌==◌, if◌then◌else◌, [], Some, None, IsSome, IfSome, OnOk, false};
+ghost use Rattle.std.specs.Prelude.{◌≡◌, ◌<◌, ◌≤◌, ◌+◌, ◌-◌, ◌^◌, ◌⊎◌, ℕ, IfOk, IfErr, ◌==◌, if◌then◌else◌, List, [], Some, None, IsSome, IfSome, OnOk, false};
 ghost use Rattle.std.specs.BTreeMap.{get};
 ghost use Rattle.std.specs.Ordering.{nat_cmp};
 ghost use Rattle.framehop.specs.Modules.{ModuleView, UnwinderView};
-ghost use Rattle.framehop_processes.specs.Mappings.{IsInOrder, with_mapping, changed_modules};
+ghost use Rattle.framehop_processes.specs.Mappings.{IsInOrder, with_mapping, changed_modules, left_by};
 ghost use Rattle.framehop_processes.specs.Process.{HasModules};
 ghost use Rattle.framehop_processes.specs.declared.error.ProcessesError.{ProcessesError};
 ghost use Rattle.framehop_processes.specs.declared.mapping.Mapping.{Mapping};
 ghost use Rattle.framehop_perf_stacks.specs.Ended.{drawn_by, IsWithoutAddress, MayEnd};
-ghost use Rattle.framehop_perf_stacks.specs.Processes.{mapped_in, ready_in, with_process, after, IsFit, IsServed, AreDrawn, HaveSame, HaveReady, AreEarlier};
+ghost use Rattle.framehop_perf_stacks.specs.Processes.{mapped_in, ready_in, with_process, after, IsFit, IsServed, IsMadeOf, Tells, LeadsTo, AreDrawn, AreMade, HaveSame, HaveReady, AreEarlier};
 ghost use Rattle.framehop_perf_stacks.specs.declared.error.StacksError.TheVariants.{OutOfMemory, EmptyMapping};
 
 use crate::changes::Change;
@@ -33,16 +33,31 @@ const MOST_DIFFERENT: usize = 32;
 /// The mappings of a process.
 #[derive(Drop)]
 pub struct MappedProcess {
-    /// Which mappings these are: a number that no others have. Forks have the same until one of them maps something.
-    number: u64,
+    version: Version,
     mappings: SharedMappings,
 }
 
-/// What is taken of a process out of those that are known.
-#[derive(Drop)]
-struct Taken<U: ProcessUnwinder> {
-    mappings: SharedMappings,
-    process: Option<Process<U>>,
+/// Which mappings these are.
+#[derive(Clone, Copy)]
+struct Version {
+    /// A number that no others have. Forks have the same until one of them maps something.
+    number: u64,
+    /// Those of another number and one more, if it overlaps none of them.
+    made_of: Option<MadeOf>,
+}
+
+/// Mappings of a number, and one more.
+#[derive(Clone, Copy)]
+struct MadeOf {
+    number: u64,
+    mapping: Mapping,
+}
+
+/// What makes mappings out of others: the one that starts at an address (AVMA) goes, if one is given, and one comes.
+#[derive(Clone, Copy)]
+struct Exchange {
+    gone: Option<u64>,
+    come: Mapping,
 }
 
 /// The processes at a time. Unwinders have only those whose samples came lately.
@@ -53,12 +68,13 @@ pub struct Processes<U: ProcessUnwinder> {
     ready: BTreeMap<u64, Process<U>>,
     /// How many mappings these had together when they were made, and one more for each.
     ready_mappings: usize,
-    /// The number of the mappings of the last of these that was made.
-    latest: u64,
+    /// The mappings of the last of these that was made.
+    latest: Version,
     /// The numbers of mappings are drawn from it, too.
     generations: Generations,
-    ghost drawn: { AreDrawn by_pid generations },
-    ghost same: { HaveSame by_pid },
+    ghost drawn: { AreDrawn by_pid ready latest generations },
+    ghost same: { HaveSame by_pid ready latest },
+    ghost made: { AreMade by_pid ready latest },
     ghost have_ready: { HaveReady by_pid ready },
     ghost earlier: { AreEarlier ready generations },
 }
@@ -68,8 +84,32 @@ impl Clone for MappedProcess {
 
     fn clone(&self) -> Result<Self, AllocError> {
         Ok(MappedProcess {
-            number: self.number,
+            version: self.version,
             mappings: self.mappings.clone()?,
+        })
+    }
+}
+
+impl Version {
+    /// Returns what makes mappings of another version out of those of this one, where both differ in a mapping or two and tell so.
+    fn exchange_for(&self, wanted: &Version) -> Option<Exchange>
+        ensures { IfSome result (λ exchange. (of : MadeOf) × (wanted.now.made_of ≡ Some of) × (exchange.come ≡ of.mapping)
+            × ((mappings : List Mapping) → Tells self.now mappings of.number (left_by exchange.gone mappings))) }
+    {
+        let wanted = wanted.made_of?;
+        if wanted.number == self.number {
+            return Some(Exchange {
+                gone: None,
+                come: wanted.mapping,
+            });
+        }
+        let own = self.made_of?;
+        if wanted.number != own.number {
+            return None;
+        }
+        Some(Exchange {
+            gone: Some(own.mapping.start),
+            come: wanted.mapping,
         })
     }
 }
@@ -85,7 +125,10 @@ impl<U: ProcessUnwinder> Processes<U> {
             by_pid: BTreeMap::new(alloc),
             ready: BTreeMap::new(alloc),
             ready_mappings: 0,
-            latest: 0,
+            latest: Version {
+                number: 0,
+                made_of: None,
+            },
             generations: Generations::new(),
         }
     }
@@ -108,7 +151,7 @@ impl<U: ProcessUnwinder> Processes<U> {
         let Some(mapped) = self.by_pid.get(&pid) else {
             unreachable!()
         };
-        match self.ready.get(&mapped.number) {
+        match self.ready.get(&mapped.version.number) {
             Some(process) => process,
             None => unreachable!(),
         }
@@ -134,13 +177,14 @@ impl<U: ProcessUnwinder> Processes<U> {
         ensures refused { IfErr result (MayEnd false None (self.old.generations + 2) 0) }
     {
         let mapped = self.met(alloc, pid)?;
-        if self.ready.contains_key(&mapped.number) {
+        if self.ready.contains_key(&mapped.version.number) {
             return Ok(());
         }
+        let exchange = self.latest.exchange_for(&mapped.version);
         let near = self.make_room(alloc, mapped.mappings.len());
         let generations = &mut self.generations;
-        let process = process_with(alloc, maker, near, &mapped.mappings, generations)?;
-        self.keep(pid, mapped.number, process)?;
+        let process = process_with(alloc, maker, near, exchange, &mapped.mappings, generations)?;
+        self.keep(pid, mapped.version, process)?;
         Ok(())
     }
 
@@ -170,8 +214,7 @@ impl<U: ProcessUnwinder> Processes<U> {
         Ok(())
     }
 
-    /// Maps a file into a process, which begins with it if it is not known. After an error the process is not known any
-    /// more.
+    /// Maps a file into a process, which begins with it if it is not known. After an error it may not be ready any more.
     fn map<M: ModuleMaker<U>>(
         &mut self,
         alloc: Global,
@@ -193,11 +236,12 @@ impl<U: ProcessUnwinder> Processes<U> {
         if mapping.end <= mapping.start {
             return Err(StacksError::EmptyMapping);
         }
-        let Taken { mappings, process } = self.take(alloc, pid)?;
-        let number = self.put(pid, mappings.with_mapping(alloc, mapping)?)?;
+        let process = self.take(pid);
+        let (mappings, made_of) = self.mappings_with(alloc, pid, mapping)?;
+        let version = self.put(pid, mappings, made_of)?;
         if let Some(process) = process {
             let process = self.mapped(alloc, maker, process, mapping)?;
-            self.keep(pid, number, process)?;
+            self.keep(pid, version, process)?;
         }
         Ok(())
     }
@@ -211,8 +255,8 @@ impl<U: ProcessUnwinder> Processes<U> {
         ensures drawn { self.new.generations ≤ self.old.generations + 1 }
         ensures refused { IfErr result (MayEnd false None (self.old.generations + 1) 0) }
     {
-        self.take(alloc, pid)?;
-        self.put(pid, SharedMappings::new(alloc)?)?;
+        self.take(pid);
+        self.put(pid, SharedMappings::new(alloc)?, None)?;
         Ok(())
     }
 
@@ -242,13 +286,43 @@ impl<U: ProcessUnwinder> Processes<U> {
             return Ok(mapped.clone()?);
         }
         let mappings = SharedMappings::new(alloc)?;
-        let number = self.put(pid, mappings.clone()?)?;
-        Ok(MappedProcess { number, mappings })
+        let version = self.put(pid, mappings.clone()?, None)?;
+        Ok(MappedProcess { version, mappings })
     }
 
-    /// Stores the mappings of a process under a number of their own, in the place of those that it has, and returns the number.
-    fn put(&mut self, pid: u32, mappings: SharedMappings) -> Result<u64, StacksError>
-        ensures put { IfOk result (λ number. get nat_cmp self.new.by_pid pid ≡ Some (record { number = number; mappings = mappings })) }
+    /// Returns the mappings of a process with a new one, and what they are made of.
+    fn mappings_with(
+        &self,
+        alloc: Global,
+        pid: u32,
+        mapping: Mapping,
+    ) -> Result<(SharedMappings, Option<MadeOf>), AllocError>
+        requires { mapping.start < mapping.end }
+        ensures mapped { IfOk result (λ made. made.0 ≡ with_mapping mapping (mapped_in self.now.by_pid pid)) }
+        ensures made_of { IfOk result (λ made. IfSome made.1 (IsMadeOf self.now.by_pid made.0)) }
+    {
+        let Some(process) = self.by_pid.get(&pid) else {
+            let mappings = SharedMappings::new(alloc)?.with_mapping(alloc, mapping)?;
+            return Ok((mappings, None));
+        };
+        let number = process.version.number;
+        let mappings = process.mappings.with_mapping(alloc, mapping)?;
+        if process.mappings.overlaps(mapping) {
+            return Ok((mappings, None));
+        }
+        Ok((mappings, Some(MadeOf { number, mapping })))
+    }
+
+    /// Stores the mappings of a process under a number of their own, in the place of those that it has, and returns which they
+    /// are.
+    fn put(
+        &mut self,
+        pid: u32,
+        mappings: SharedMappings,
+        made_of: Option<MadeOf>,
+    ) -> Result<Version, StacksError>
+        requires { IfSome made_of (IsMadeOf self.old.by_pid mappings) }
+        ensures put { IfOk result (λ version. get nat_cmp self.new.by_pid pid ≡ Some (record { version = version; mappings = mappings })) }
         ensures mapped { OnOk result ((number : ℕ) → mapped_in self.new.by_pid number ≡ with_process pid mappings (mapped_in self.old.by_pid) number) }
         ensures ready { self.new.ready ≡ self.old.ready }
         ensures drawn { (self.old.generations ≤ self.new.generations) × (self.new.generations ≤ self.old.generations + 1) }
@@ -257,39 +331,28 @@ impl<U: ProcessUnwinder> Processes<U> {
         let Some(number) = self.generations.next() else {
             return Err(StacksError::GenerationsExhausted);
         };
-        self.by_pid.insert(pid, MappedProcess { number, mappings })?;
-        Ok(number)
+        let version = Version { number, made_of };
+        self.by_pid
+            .insert(pid, MappedProcess { version, mappings })?;
+        Ok(version)
     }
 
-    /// Takes a process out of those that are known: its mappings, and what is ready of it, if no other process has the same.
-    fn take(&mut self, alloc: Global, pid: u32) -> Result<Taken<U>, StacksError>
-        ensures taken { IfOk result (λ taken. taken.mappings ≡ mapped_in self.old.by_pid pid) }
-        ensures had { IfOk result (λ taken. IfSome taken.process (λ process. process.mappings ≡ mapped_in self.old.by_pid pid)) }
-        ensures others { (number : ℕ) → mapped_in self.new.by_pid number ≡ with_process pid [] (mapped_in self.old.by_pid) number }
+    /// Takes what is ready of a process out of those that are ready, if no other process has the same mappings.
+    fn take(&mut self, pid: u32) -> Option<Process<U>>
+        ensures had { IfSome result (λ process. process.mappings ≡ mapped_in self.old.by_pid pid) }
+        ensures kept { (self.new.by_pid ≡ self.old.by_pid) × (self.new.generations ≡ self.old.generations) }
         ensures served { (module_of : Mapping → ModuleView) (cache : U.Cache)
             → IsServed module_of (λ view. U.is_sound view cache) self.old.ready self.old.generations
             → IsServed module_of (λ view. U.is_sound view cache) self.new.ready self.new.generations }
-        ensures fits { IfOk result (λ taken. (module_of : Mapping → ModuleView) (cache : U.Cache)
+        ensures fits { (module_of : Mapping → ModuleView) (cache : U.Cache)
             → IsServed module_of (λ view. U.is_sound view cache) self.old.ready self.old.generations
-            → IfSome taken.process (IsFit module_of (λ view. U.is_sound view cache) self.new.ready self.new.generations)) }
-        ensures drawn { self.new.generations ≡ self.old.generations }
-        ensures refused { IfErr result (λ error. error ≡ OutOfMemory) }
+            → IfSome result (IsFit module_of (λ view. U.is_sound view cache) self.new.ready self.new.generations) }
     {
-        let Some(mapped) = self.by_pid.remove(&pid) else {
-            return Ok(Taken {
-                mappings: SharedMappings::new(alloc)?,
-                process: None,
-            });
-        };
-        let process = if mapped.mappings.is_shared() {
-            None
-        } else {
-            self.ready.remove(&mapped.number)
-        };
-        Ok(Taken {
-            mappings: mapped.mappings,
-            process,
-        })
+        let mapped = self.by_pid.get(&pid)?;
+        if mapped.mappings.is_shared() {
+            return None;
+        }
+        self.ready.remove(&mapped.version.number)
     }
 
     /// Maps a file into a process that was taken.
@@ -322,6 +385,7 @@ impl<U: ProcessUnwinder> Processes<U> {
     /// was made, if it is like it, and else lets all go.
     fn make_room(&mut self, alloc: Global, mappings: usize) -> Option<Process<U>>
         ensures kept { (self.new.by_pid ≡ self.old.by_pid) × (self.new.generations ≡ self.old.generations) }
+        ensures latest { IfSome result (λ near. get nat_cmp self.old.ready self.old.latest.number ≡ Some near) }
         ensures served { (module_of : Mapping → ModuleView) (cache : U.Cache)
             → IsServed module_of (λ view. U.is_sound view cache) self.old.ready self.old.generations
             → IsServed module_of (λ view. U.is_sound view cache) self.new.ready self.new.generations }
@@ -346,6 +410,7 @@ impl<U: ProcessUnwinder> Processes<U> {
     /// Takes the last process that was made out of those that are ready, if it has about so many mappings, and not few.
     fn take_latest(&mut self, mappings: usize) -> Option<Process<U>>
         ensures kept { (self.new.by_pid ≡ self.old.by_pid) × (self.new.generations ≡ self.old.generations) }
+        ensures latest { IfSome result (λ near. get nat_cmp self.old.ready self.old.latest.number ≡ Some near) }
         ensures served { (module_of : Mapping → ModuleView) (cache : U.Cache)
             → IsServed module_of (λ view. U.is_sound view cache) self.old.ready self.old.generations
             → IsServed module_of (λ view. U.is_sound view cache) self.new.ready self.new.generations }
@@ -353,17 +418,17 @@ impl<U: ProcessUnwinder> Processes<U> {
             → IsServed module_of (λ view. U.is_sound view cache) self.old.ready self.old.generations
             → IfSome result (HasModules module_of) }
     {
-        let latest = self.ready.get(&self.latest)?;
+        let latest = self.ready.get(&self.latest.number)?;
         let difference = latest.mappings().len().abs_diff(mappings);
         if mappings < LEAST_EXCHANGED || difference > MOST_DIFFERENT {
             return None;
         }
-        self.ready.remove(&self.latest)
+        self.ready.remove(&self.latest.number)
     }
 
     /// Keeps a process as the one of the number of a process's mappings, which it has.
-    fn keep(&mut self, pid: u32, number: u64, process: Process<U>) -> Result<(), StacksError>
-        requires { get nat_cmp self.old.by_pid pid ≡ Some (record { number = number; mappings = process.mappings }) }
+    fn keep(&mut self, pid: u32, version: Version, process: Process<U>) -> Result<(), StacksError>
+        requires { get nat_cmp self.old.by_pid pid ≡ Some (record { version = version; mappings = process.mappings }) }
         ensures ready { OnOk result (IsSome (ready_in self.new.by_pid self.new.ready pid)) }
         ensures kept { (self.new.by_pid ≡ self.old.by_pid) × (self.new.generations ≡ self.old.generations) }
         ensures served { OnOk result ((module_of : Mapping → ModuleView) (cache : U.Cache)
@@ -372,24 +437,26 @@ impl<U: ProcessUnwinder> Processes<U> {
             → IsServed module_of (λ view. U.is_sound view cache) self.new.ready self.new.generations) }
         ensures refused { IfErr result (λ error. error ≡ OutOfMemory) }
     {
-        self.latest = number;
-        self.ready.insert(number, process)?;
+        self.latest = version;
+        self.ready.insert(version.number, process)?;
         Ok(())
     }
 }
 
 /// Returns a process with these mappings, and an unwinder with their modules, of the next generation: one that has exchanged its
-/// own for them, if one is given.
+/// own for them, if one is given, or only what is told.
 fn process_with<U: ProcessUnwinder, M: ModuleMaker<U>>(
     alloc: Global,
     maker: &M,
     near: Option<Process<U>>,
+    exchange: Option<Exchange>,
     mappings: &SharedMappings,
     generations: &mut Generations,
 ) -> Result<Process<U>, ProcessesError>
 where
     U::Module: Drop,
-    requires { IfSome near (HasModules (M.module_of maker.now)) }
+    requires modules { IfSome near (HasModules (M.module_of maker.now)) }
+    requires exchange { IfSome near (λ near. IfSome exchange (λ exchange. LeadsTo exchange near.mappings mappings.now)) }
     ensures served { IfOk result (λ made. HasModules (M.module_of maker.now) made) }
     ensures mapped { IfOk result (λ made. made.mappings ≡ mappings.now) }
     ensures drawn { IfOk result (λ made. (made.unwinder.generation ≡ generations.old)
@@ -398,8 +465,11 @@ where
         × ((error ≡ ProcessesError.GenerationsExhausted) → (generations.old ≡ 2 ^ 64 - 1))) }
     ensures never_back { (generations.old ≤ generations.new) × (generations.new ≤ generations.old + 1) }
 {
-    match near {
-        Some(near) => near.exchanged(alloc, maker, mappings, generations),
-        None => Process::with_mappings(alloc, maker, mappings, generations),
+    match (near, exchange) {
+        (Some(near), Some(Exchange { gone, come })) => {
+            near.one_exchanged(alloc, maker, gone, come, generations)
+        }
+        (Some(near), None) => near.exchanged(alloc, maker, mappings, generations),
+        (None, _) => Process::with_mappings(alloc, maker, mappings, generations),
     }
 }

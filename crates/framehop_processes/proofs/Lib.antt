@@ -1,5 +1,6 @@
 -- Lemmas of this crate.
 mod AddressLemmas
+pub mod ApartLemmas
 mod CodeLemmas
 mod CodeMapLemmas
 mod ConstantLemmas

@@ -103,7 +103,7 @@ dropped-starting_from address ms i point =
 
 -- ---- order is kept
 
-weaker-order : (low from : ℕ) (ms : List Mapping) → low ≤ from → IsInOrder from ms → IsInOrder low ms
+pub weaker-order : (low from : ℕ) (ms : List Mapping) → low ≤ from → IsInOrder from ms → IsInOrder low ms
 weaker-order low from [] less order = tt
 weaker-order low from (m ∷ ms) less order = (let first = order.0 in omega (arith, less, first), order.1, order.2)
 
@@ -218,7 +218,7 @@ above-none address (m ∷ ms) ends =
     let here : nat_lt address m.end ≡ false = lt-leb _ _ (omega (arith, end)) in
     rw here (above-none address ms ends.1)
 
-ends-later : (low high : ℕ) (ms : List Mapping) → low ≤ high → EndBy low ms → EndBy high ms
+pub ends-later : (low high : ℕ) (ms : List Mapping) → low ≤ high → EndBy low ms → EndBy high ms
 ends-later low high [] less ends = tt
 ends-later low high (m ∷ ms) less ends = (let end = ends.0 in omega (arith, end, less), ends-later low high ms less ends.1)
 
@@ -232,11 +232,11 @@ above-append address xs ys =
     ap (map (part_above address)) (filter-append (λ m. nat_lt address m.end) xs ys)
     ∙ map-append (part_above address) (filter (λ m. nat_lt address m.end) xs) (filter (λ m. nat_lt address m.end) ys)
 
-append-empty : {A : Type 0} (xs : List A) → xs ++ [] ≡ xs
+pub append-empty : {A : Type 0} (xs : List A) → xs ++ [] ≡ xs
 append-empty [] = refl
 append-empty (x ∷ xs) = ap (λ rest. x ∷ rest) (append-empty xs)
 
-append-parts : {A : Type 0} (xs ys zs : List A) → (xs ++ ys) ++ zs ≡ xs ++ (ys ++ zs)
+pub append-parts : {A : Type 0} (xs ys zs : List A) → (xs ++ ys) ++ zs ≡ xs ++ (ys ++ zs)
 append-parts [] ys zs = refl
 append-parts (x ∷ xs) ys zs = ap (λ rest. x ∷ rest) (append-parts xs ys zs)
 
@@ -261,7 +261,7 @@ starts-past from m (x ∷ before) after order =
     let rest = starts-past x.end m before after order.2 in
     omega (arith, first, own, rest)
 
-ends-before : (from : ℕ) (m : Mapping) (before after : List Mapping) → IsInOrder from (before ++ m ∷ after) → EndBy m.start before
+pub ends-before : (from : ℕ) (m : Mapping) (before after : List Mapping) → IsInOrder from (before ++ m ∷ after) → EndBy m.start before
 ends-before from m [] after order = tt
 ends-before from m (x ∷ before) after order =
     (starts-past x.end m before after order.2, ends-before x.end m before after order.2)
@@ -341,13 +341,13 @@ filter-again test (m ∷ ms) =
     (λ is. rw is (ap (λ others. m ∷ others) rest)) (λ is. rest)
 
 -- those after the ones that pass a test fail it, if no others pass
-none-behind : (test : Mapping → Bool) (ms front back : List Mapping) → ms ≡ front ++ back → front ≡ filter test ms → filter test back ≡ []
+pub none-behind : (test : Mapping → Bool) (ms front back : List Mapping) → ms ≡ front ++ back → front ≡ filter test ms → filter test back ≡ []
 none-behind test ms front back whole is =
     nothing-more front (filter test back)
     (is ∙ ap (filter test) whole ∙ filter-append test front back
     ∙ ap (λ kept. kept ++ filter test back) (ap (filter test) is ∙ filter-again test ms ∙ sym is))
 
-fails-head : (test : Mapping → Bool) (m : Mapping) (ms : List Mapping) → filter test (m ∷ ms) ≡ [] → (test m ≡ false) × (filter test ms ≡ [])
+pub fails-head : (test : Mapping → Bool) (m : Mapping) (ms : List Mapping) → filter test (m ∷ ms) ≡ [] → (test m ≡ false) × (filter test ms ≡ [])
 fails-head test m ms none =
     cond_both (test m) (m ∷ filter test ms) (filter test ms) (λ kept. kept ≡ [] → (test m ≡ false) × (filter test ms ≡ []))
     (λ is e. cc) (λ is e. (is, e)) none
@@ -369,16 +369,16 @@ none-before test ms front back whole is =
     (ap length (is ∙ ap (filter test) whole ∙ filter-append test front back
     ∙ ap (λ kept. filter test front ++ kept) (ap (filter test) is ∙ filter-again test ms ∙ sym is)))
 
-both : (a b : Bool) → a ≡ true → b ≡ true → (a && b) ≡ true
+pub both : (a b : Bool) → a ≡ true → b ≡ true → (a && b) ≡ true
 both true true x y = refl
 both true false x y = y
 both false b x y = x
 
-not-second : (a b : Bool) → b ≡ false → (a && b) ≡ false
+pub not-second : (a b : Bool) → b ≡ false → (a && b) ≡ false
 not-second true b y = y
 not-second false b y = refl
 
-not-first : (a b : Bool) → a ≡ false → (a && b) ≡ false
+pub not-first : (a b : Bool) → a ≡ false → (a && b) ≡ false
 not-first true b y = cc
 not-first false b y = refl
 
@@ -398,7 +398,7 @@ overlapped-none-after new from (m ∷ ms) order low =
     rw here (overlapped-none-after new m.end ms order.2 (omega (arith, first, own, low)))
 
 -- of two numbers the second is lower, where the first is not at most that
-lt-of : (a b : ℕ) → nat_le a b ≡ false → nat_lt b a ≡ true
+pub lt-of : (a b : ℕ) → nat_le a b ≡ false → nat_lt b a ≡ true
 lt-of a b fails = le-leb _ _ (leb-false a b fails)
 
 overlapped-all : (new : Mapping) (ms : List Mapping) → ending_by new.start ms ≡ [] → starting_from new.end ms ≡ [] → overlapped new ms ≡ ms
@@ -441,7 +441,7 @@ module _ (module_of : Mapping → ModuleView) (starts : StartsAt module_of) wher
       rw (here, rest) refl
 
   -- a module that is added between others
-  modules-between : (from : ℕ) (new : Mapping) (before after : List Mapping) → IsInOrder from (before ++ new ∷ after)
+  pub modules-between : (from : ℕ) (new : Mapping) (before after : List Mapping) → IsInOrder from (before ++ new ∷ after)
       → with_module (module_of new) (map module_of (before ++ after)) ≡ map module_of (before ++ new ∷ after)
   modules-between from new [] after order =
       let is = starts new in
@@ -558,7 +558,7 @@ pub taken-before : {A : Type 0} (before rest : List A) → take (length before) 
 taken-before [] rest = refl
 taken-before (x ∷ before) rest = ap (λ others. x ∷ others) (taken-before before rest)
 
-dropped-front : {A : Type 0} (front rest : List A) → drop (length front) (front ++ rest) ≡ rest
+pub dropped-front : {A : Type 0} (front rest : List A) → drop (length front) (front ++ rest) ≡ rest
 dropped-front [] rest = refl
 dropped-front (x ∷ front) rest = dropped-front front rest
 

@@ -1,5 +1,5 @@
 -- The mappings of a process, in order of start.
-use Rattle.std.specs.Prelude.{ℕ, ◌+◌, ◌<◌, ◌≤◌, Bool, Option, option_map, find, nat_le, nat_lt, List, [], ◌∷◌, ◌++◌, length, map, filter, min, max, ◌&&◌}
+use Rattle.std.specs.Prelude.{ℕ, ◌+◌, ◌<◌, ◌≤◌, ◌==◌, Bool, not, Option, Some, None, option_map, find, nat_le, nat_lt, List, [], ◌∷◌, ◌++◌, length, map, filter, min, max, ◌&&◌}
 use Rattle.framehop_processes.specs.declared.mapping.Mapping.{Mapping}
 
 -- each has an address, and starts at or after the end of the one before it, the first at or after an address
@@ -51,9 +51,21 @@ ending_by address mappings = filter (λ m. nat_le m.end address) mappings
 abbrev pub starting_from : ℕ → List Mapping → List Mapping
 starting_from address mappings = filter (λ m. nat_le address m.start) mappings
 
--- those that have an address of the new one
+-- a mapping has an address of the new one
+abbrev pub overlaps : Mapping → Mapping → Bool
+overlaps new m = nat_lt m.start new.end && nat_lt new.start m.end
+
+-- those that have
 abbrev pub overlapped : Mapping → List Mapping → List Mapping
-overlapped new mappings = filter (λ m. nat_lt m.start new.end && nat_lt new.start m.end) mappings
+overlapped new mappings = filter (overlaps new) mappings
+
+-- those that start elsewhere than at an address, if one is given
+abbrev pub starting_elsewhere : ℕ → List Mapping → List Mapping
+starting_elsewhere start mappings = filter (λ m. not (m.start == start)) mappings
+
+abbrev pub left_by : Option ℕ → List Mapping → List Mapping
+left_by (Some start) mappings = starting_elsewhere start mappings
+left_by None mappings = mappings
 
 -- How many modules go and come with a new mapping: that of each overlapped one goes, and those of the new one and of what
 -- it leaves of them come.

@@ -1,6 +1,7 @@
 //! The mappings around a new one.
-ghost use Rattle.std.specs.Prelude.{◌≡◌, ◌≤◌, ◌++◌, length, take, drop, IfOk, OnOk};
-ghost use Rattle.framehop_processes.specs.Mappings.{IsInOrder, ending_by, starting_from, part_below, part_above, below, above, with_mapping};
+ghost use Rattle.std.specs.Prelude.{◌≡◌, ◌<◌, ◌≤◌, ◌-◌, ◌++◌, ◌∷◌, [], false, length, take, drop, remove, IfOk, OnOk};
+ghost use Rattle.std.specs.List.{list_any};
+ghost use Rattle.framehop_processes.specs.Mappings.{IsInOrder, ending_by, starting_from, part_below, part_above, below, above, with_mapping, overlaps};
 
 use crate::mapping::Mapping;
 use std::alloc::{AllocError, Global};
@@ -112,4 +113,40 @@ fn cut(list: &mut Vec<Mapping>, from: usize, to: usize)
     ensures { list.new.items ≡ take from list.old.items ++ drop to list.old.items }
 {
     drop(list.drain(from..to));
+}
+
+/// Puts a mapping, which overlaps none of the others, in the place of the one at an index, in order of start. Only mappings between
+/// both places are moved.
+pub(crate) fn exchange_at(mappings: &mut [Mapping], index: usize, new: Mapping)
+    requires ordered { IsInOrder 0 mappings.old }
+    requires address { new.start < new.end }
+    requires within { index < length mappings.old }
+    requires apart { list_any (overlaps new) (remove mappings.old index) ≡ false }
+    ensures { mappings.new ≡ with_mapping new (remove mappings.old index) }
+{
+    let place = split_ending_by(mappings, new.start).0.len();
+    if index < place {
+        put_last(&mut mappings[index..place], new);
+    } else {
+        put_first(&mut mappings[place..=index], new);
+    }
+}
+
+/// Puts a mapping after all others but the first, which goes.
+fn put_last(mappings: &mut [Mapping], new: Mapping)
+    requires { 0 < length mappings.old }
+    ensures { mappings.new ≡ drop 1 mappings.old ++ new ∷ [] }
+{
+    mappings[0] = new;
+    mappings.rotate_left(1);
+}
+
+/// Puts a mapping before all others but the last, which goes.
+fn put_first(mappings: &mut [Mapping], new: Mapping)
+    requires { 0 < length mappings.old }
+    ensures { mappings.new ≡ new ∷ take (length mappings.old - 1) mappings.old }
+{
+    let last = mappings.len() - 1;
+    mappings[last] = new;
+    mappings.rotate_right(1);
 }

@@ -1,8 +1,10 @@
 //! Modules of mappings in the place of those of other mappings.
-ghost use Rattle.std.specs.Prelude.{◌≡◌, ◌+◌, ◌-◌, ◌^◌, ◌<◌, ◌≤◌, length, map, slice_get, Some, None, true, IfErr, OnOk, IfSome, Ok};
+ghost use Rattle.std.specs.Prelude.{◌≡◌, ◌+◌, ◌-◌, ◌^◌, ◌<◌, ◌≤◌, length, map, slice_get, Some, None, true, false, IfErr, OnOk, IfSome, Ok, MatchOption, remove};
+ghost use Rattle.std.specs.List.{list_any};
 ghost use Rattle.framehop.specs.Modules.{with_module, has_start, without_module};
-ghost use Rattle.framehop_processes.specs.Mappings.{IsInOrder};
+ghost use Rattle.framehop_processes.specs.Mappings.{IsInOrder, with_mapping, overlaps, left_by};
 
+use crate::around::{exchange_at, split_ending_by};
 use crate::error::ProcessesError;
 use crate::maker::ModuleMaker;
 use crate::mapping::Mapping;
@@ -101,6 +103,82 @@ fn next_step(old: &[Mapping], gone: usize, new: &[Mapping], come: usize) -> Opti
         return Some(Step::Keep);
     }
     Some(Step::Remove)
+}
+
+/// Puts a mapping, which overlaps none of the others, in the place of the one that starts at an address (AVMA), if one is given, and its
+/// module in the place of that one's. The unwinder has a generation then that no other has.
+pub(crate) fn exchange_one<U: ProcessUnwinder, M: ModuleMaker<U>>(
+    alloc: Global,
+    unwinder: &mut U,
+    maker: &M,
+    mappings: &mut Vec<Mapping>,
+    gone: Option<u64>,
+    new: Mapping,
+    generation: u64,
+) -> Result<(), ProcessesError>
+where
+    U::Module: Drop,
+    requires ordered { IsInOrder 0 mappings.old.items }
+    requires address { new.start < new.end }
+    requires apart { list_any (overlaps new) (left_by gone mappings.old.items) ≡ false }
+    requires modules { (U.unwinder_view unwinder.old).modules ≡ map (M.module_of maker.now) mappings.old.items }
+    requires drawn { generation < 2 ^ 64 - 1 }
+    ensures mapped { OnOk result (mappings.new.items ≡ with_mapping new (left_by gone mappings.old.items)) }
+    ensures modules { OnOk result (((U.unwinder_view unwinder.new).modules
+        ≡ map (M.module_of maker.now) (with_mapping new (left_by gone mappings.old.items)))
+        × ((U.unwinder_view unwinder.new).generation ≡ generation)) }
+    ensures refused { IfErr result (λ error. error ≡ ProcessesError.OutOfMemory) }
+{
+    let Some(index) = index_of(mappings.as_slice(), gone) else {
+        return put_in(alloc, unwinder, maker, mappings, new, generation);
+    };
+    remove_one(unwinder, &mappings[index], generation);
+    add_one(alloc, unwinder, maker, &new, generation)?;
+    exchange_at(mappings.as_mut_slice(), index, new);
+    Ok(())
+}
+
+/// Returns the index of the mapping that starts at an address (AVMA), if one is given and one does.
+fn index_of(mappings: &[Mapping], start: Option<u64>) -> Option<usize>
+    requires { IsInOrder 0 mappings.now }
+    ensures { MatchOption result (mappings.now ≡ left_by start mappings.now)
+        (λ index. (index < length mappings.now) × (remove mappings.now index ≡ left_by start mappings.now)) }
+{
+    let start = start?;
+    let index = split_ending_by(mappings, start).0.len();
+    if index < mappings.len() && mappings[index].start == start {
+        return Some(index);
+    }
+    None
+}
+
+/// Puts a mapping that overlaps none among mappings, and its module among those of the unwinder.
+fn put_in<U: ProcessUnwinder, M: ModuleMaker<U>>(
+    alloc: Global,
+    unwinder: &mut U,
+    maker: &M,
+    mappings: &mut Vec<Mapping>,
+    new: Mapping,
+    generation: u64,
+) -> Result<(), ProcessesError>
+where
+    U::Module: Drop,
+    requires ordered { IsInOrder 0 mappings.old.items }
+    requires address { new.start < new.end }
+    requires apart { list_any (overlaps new) mappings.old.items ≡ false }
+    requires modules { (U.unwinder_view unwinder.old).modules ≡ map (M.module_of maker.now) mappings.old.items }
+    requires drawn { generation < 2 ^ 64 - 1 }
+    ensures mapped { OnOk result (mappings.new.items ≡ with_mapping new mappings.old.items) }
+    ensures modules { OnOk result (((U.unwinder_view unwinder.new).modules ≡ map (M.module_of maker.now) mappings.new.items)
+        × ((U.unwinder_view unwinder.new).generation ≡ generation)) }
+    ensures refused { IfErr result (λ error. error ≡ ProcessesError.OutOfMemory) }
+{
+    let index = split_ending_by(mappings.as_slice(), new.start).0.len();
+    add_one(alloc, unwinder, maker, &new, generation)?;
+    if mappings.insert(index, new).is_err() {
+        return Err(ProcessesError::OutOfMemory);
+    }
+    Ok(())
 }
 
 /// Removes the module of a mapping from an unwinder that has it, and gives it a generation.

@@ -1,12 +1,13 @@
 //! A process: its mappings, and the unwinder that has their modules.
-ghost use Rattle.std.specs.Prelude.{ℕ, ◌≡◌, ◌+◌, ◌-◌, ◌^◌, ◌<◌, ◌≤◌, [], Some, IfOk, IfErr, Err, if◌then◌else◌};
+ghost use Rattle.std.specs.Prelude.{ℕ, ◌≡◌, ◌+◌, ◌-◌, ◌^◌, ◌<◌, ◌≤◌, [], Some, IfOk, IfErr, Err, false, if◌then◌else◌};
+ghost use Rattle.std.specs.List.{list_any};
 ghost use Rattle.framehop.specs.Modules.{greatest_end};
-ghost use Rattle.framehop_processes.specs.Mappings.{IsInOrder, with_mapping, covers, content, mapped_at, changed_modules};
+ghost use Rattle.framehop_processes.specs.Mappings.{IsInOrder, with_mapping, covers, content, mapped_at, changed_modules, overlaps, left_by};
 ghost use Rattle.framehop_processes.specs.Process.{HasModules, IsDrawn};
 
 use crate::around::{replace, split_ending_by, split_starting_below, with_mapping};
 use crate::error::ProcessesError;
-use crate::exchange::exchange_modules;
+use crate::exchange::{exchange_modules, exchange_one};
 use crate::maker::ModuleMaker;
 use crate::mapping::Mapping;
 use crate::modules::{add_modules, made_modules, remove_modules};
@@ -195,6 +196,54 @@ impl<U: ProcessUnwinder> Process<U> {
             mappings: new,
             unwinder,
         })
+    }
+
+    /// Returns the process with one mapping more, which overlaps none of those that are left: of its own the one that starts at
+    /// an address (AVMA) goes, if one is given. The unwinder has their modules, as the maker makes them, and the next generation. No
+    /// other mapping is looked at.
+    ///
+    /// # Errors
+    ///
+    /// `GenerationsExhausted` where the counter is at its end, and `OutOfMemory`. There is no process any more then, and a
+    /// generation may have been drawn.
+    pub fn one_exchanged<M: ModuleMaker<U>>(
+        self,
+        alloc: Global,
+        maker: &M,
+        gone: Option<u64>,
+        come: Mapping,
+        generations: &mut Generations,
+    ) -> Result<Process<U>, ProcessesError>
+    where
+        U::Module: Drop,
+        requires modules { HasModules (M.module_of maker.now) self }
+        requires address { come.start < come.end }
+        requires apart { list_any (overlaps come) (left_by gone self.mappings) ≡ false }
+        ensures served { IfOk result (λ made. HasModules (M.module_of maker.now) made) }
+        ensures mapped { IfOk result (λ made. made.mappings ≡ with_mapping come (left_by gone self.mappings)) }
+        ensures drawn { IfOk result (λ made. (made.unwinder.generation ≡ generations.old)
+            × (generations.new ≡ generations.old + 1)) }
+        ensures refused { IfErr result (λ error. ((error ≡ ProcessesError.EmptyMapping) → ⊥)
+            × ((error ≡ ProcessesError.GenerationsExhausted) → (generations.old ≡ 2 ^ 64 - 1))) }
+        ensures never_back { (generations.old ≤ generations.new) × (generations.new ≤ generations.old + 1) }
+    {
+        let Process {
+            mut mappings,
+            mut unwinder,
+        } = self;
+        let Some(generation) = generations.next() else {
+            return Err(ProcessesError::GenerationsExhausted);
+        };
+        exchange_one(
+            alloc,
+            &mut unwinder,
+            maker,
+            &mut mappings,
+            gone,
+            come,
+            generation,
+        )?;
+        Ok(Process { mappings, unwinder })
     }
 
     /// Returns the mappings, in order of start.

@@ -1,6 +1,7 @@
 //! Mappings that processes share until one of them maps something.
 ghost use Rattle.std.specs.Prelude.{◌≡◌, ◌<◌, ◌-◌, ◌^◌, ◌++◌, ◌∷◌, [], length, min, IfOk, OnOk};
-ghost use Rattle.framehop_processes.specs.Mappings.{IsInOrder, with_mapping, below, above};
+ghost use Rattle.std.specs.List.{list_any};
+ghost use Rattle.framehop_processes.specs.Mappings.{IsInOrder, with_mapping, below, above, overlaps};
 ghost use Rattle.framehop_processes.specs.Shared.{outweighs};
 
 use crate::around::{part_above, part_below};
@@ -108,6 +109,14 @@ impl SharedMappings {
         Rc::strong_count(&self.tree) > 1
     }
 
+    /// Returns whether one of these mappings has an address of a new one.
+    pub fn overlaps(&self, new: Mapping) -> bool
+        ensures value { result ≡ list_any (overlaps new) self.now }
+        ensures ordered { IsInOrder 0 self.now }
+    {
+        self.tree.overlaps(new)
+    }
+
     /// Returns these mappings with a new one, which has an address, in the place of what it overlaps: of an overlapped
     /// mapping what lies outside the new one stays.
     ///
@@ -141,6 +150,30 @@ impl Tree {
         match &self.node {
             Node::Empty => 0,
             Node::Fork { count, .. } => *count,
+        }
+    }
+
+    /// Returns whether one of these mappings has an address of a new one.
+    fn overlaps(&self, new: Mapping) -> bool
+        requires { IsInOrder 0 self.now }
+        ensures { result ≡ list_any (overlaps new) self.now }
+    {
+        match &self.node {
+            Node::Empty => false,
+            Node::Fork {
+                before,
+                mapping,
+                after,
+                ..
+            } => {
+                if new.end <= mapping.start {
+                    return before.overlaps(new);
+                }
+                if mapping.end <= new.start {
+                    return after.overlaps(new);
+                }
+                true
+            }
         }
     }
 
