@@ -20,7 +20,7 @@ use std::alloc::{AllocError, Global};
 
 /// What a walk took for the caller of a frame.
 #[derive(Clone, Copy, Debug, PartialEq, Eq)]
-pub enum Taken {
+enum Taken {
     /// The library's step.
     Step,
     /// A row over all registers that are known, where the library has no rule for it.
