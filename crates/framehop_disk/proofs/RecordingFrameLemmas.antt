@@ -1,6 +1,6 @@
 -- Sections of a recording that are moved one after another.
-use Rattle.std.proofs.Common.{◌≡◌, ◌<◌, ◌+◌, ◌-◌, ◌∙◌, ℕ, suc, List, ap, refl, arith}
-use Rattle.std.specs.Prelude.{Option, Some, None, option_and_then}
+use Rattle.std.proofs.Common.{◌≡◌, ◌<◌, ◌+◌, ◌-◌, ◌∙◌, ℕ, suc, List, ap, arith}
+use Rattle.std.specs.Prelude.{Some, None, option_and_then}
 use Rattle.framehop_recording.specs.declared.header.Section.{Section}
 use Rattle.framehop_disk.specs.RecordingFrame.{section_moved, sections_moved}
 use Rattle.framehop_disk.specs.Wanted.{sum_64}

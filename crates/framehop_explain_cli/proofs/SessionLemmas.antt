@@ -1,5 +1,5 @@
 -- The unwinders after a command, and the notes of its reply.
-use Rattle.std.proofs.Common.{◌≡◌, ◌∙◌, ℕ, suc, ◌+◌, ◌-◌, ◌^◌, ◌<◌, ◌≤◌, Bool, true, false, List, [], ◌∷◌, ◌++◌, length, drop, get_or, drop-cons, slice_index_or, slice_set, Some, None, Ok, Err, refl, sym, ap, subst, arith, lt-ltb, le-ltb, append_assoc, append-nil, codes, Option, Result, IfOk, OnOk, if◌then◌else◌}
+use Rattle.std.proofs.Common.{◌≡◌, ◌∙◌, ℕ, ◌+◌, ◌-◌, ◌<◌, ◌≤◌, Bool, true, false, List, [], ◌∷◌, ◌++◌, length, drop, get_or, drop-cons, Some, None, Ok, Err, refl, sym, ap, subst, arith, lt-ltb, append_assoc, append-nil, codes, Result, IfOk, OnOk, if◌then◌else◌}
 use Rattle.std.proofs.Math.ListN.{drop_of_length-le}
 use Rattle.std.specs.Global.{Global}
 use Rattle.std.specs.declared.vec.Vec.{Vec}
@@ -34,10 +34,10 @@ use Rattle.framehop_explain.specs.Found.{Explaining}
 use Rattle.framehop_walk.specs.Commands.{Written}
 use Rattle.framehop_walk.specs.Program.{read_next}
 use Rattle.framehop_walk.specs.Refusals.{Reading}
-use Rattle.framehop.specs.Modules.{ModuleView, UnwinderView, with_module, has_start, without_module}
+use Rattle.framehop.specs.Modules.{ModuleView, UnwinderView}
 use Rattle.framehop.specs.declared.session.commands.Command.{Command}
-use Rattle.framehop.specs.declared.session.commands.Command.TheVariants.{New, Clone, Add, Remove, Step, Walk}
-use Rattle.framehop_explain_cli.specs.SessionNotes.{Unwinders, unwinder_at, state_after, IsAccepted, IsNoted, AreNotesBy, AreNotesOf, AreNotesIn, AreNotesUnder, AreNotesOn, AreSessionNotes, module_line, base_lines}
+use Rattle.framehop.specs.declared.session.commands.Command.TheVariants.{Step, Walk}
+use Rattle.framehop_explain_cli.specs.SessionNotes.{Unwinders, unwinder_at, IsAccepted, IsNoted, AreNotesBy, AreNotesOf, AreNotesIn, AreNotesUnder, AreNotesOn, AreSessionNotes, module_line, base_lines}
 use Rattle.framehop_explain_cli.specs.Remarks.{remark_line, remark_lines, remark_on, lines_among}
 use Rattle.framehop_explain.specs.declared.kind.UnwindDataKind.{UnwindDataKind}
 

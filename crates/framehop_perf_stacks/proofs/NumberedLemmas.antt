@@ -1,5 +1,5 @@
 -- Which mappings the numbers of processes have, after a change.
-use Rattle.std.proofs.Common.{◌≡◌, ◌⊎◌, inl, inr, ℕ, ◌+◌, ◌≤◌, Bool, true, false, cond, Option, Some, None, IfSome, Result, Ok, Err, OnOk, OnErr, List, refl, ap, sym, ◌∙◌, subst, arith, true≢false}
+use Rattle.std.proofs.Common.{◌≡◌, ◌⊎◌, inl, inr, ℕ, ◌+◌, ◌≤◌, Bool, true, false, cond, Option, Some, None, IfSome, Result, Ok, Err, OnOk, OnErr, List, refl, ap, sym, ◌∙◌, arith, true≢false}
 use Rattle.std.specs.Prelude.{is_some, unwrap_or}
 use Rattle.std.specs.BTreeMap.{BTreeMap, get, is_at, Updates}
 use Rattle.std.specs.Cmp.{nat_cmp_is}
@@ -9,7 +9,7 @@ use Rattle.std.proofs.lemmas.Bool.{cases_order}
 use Rattle.framehop_processes.specs.Process.{ProcessView}
 use Rattle.framehop_processes.specs.declared.mapping.Mapping.{Mapping}
 use Rattle.framehop_processes.specs.Mappings.{left_by, starting_elsewhere}
-use Rattle.framehop_perf_stacks.specs.Processes.{IsOneMore, LeadsTo, IsMadeOf, Tells, AreKnown, AreDrawn, HaveSame, AreMade, HaveReady, AreEarlier}
+use Rattle.framehop_perf_stacks.specs.Processes.{LeadsTo, IsMadeOf, Tells, AreKnown, AreDrawn, HaveSame, AreMade, HaveReady, AreEarlier}
 use Rattle.framehop_perf_stacks.specs.declared.processes.Exchange.{Exchange}
 use Rattle.framehop_perf_stacks.specs.declared.processes.MadeOf.{MadeOf}
 use Rattle.framehop_perf_stacks.specs.declared.processes.MappedProcess.{MappedProcess}

@@ -1,7 +1,7 @@
-use Rattle.std.proofs.Common.{◌≡◌, ℕ, Bool, None, sym, ◌∙◌, arith, subst}
+use Rattle.std.proofs.Common.{◌≡◌, ℕ, None, sym, ◌∙◌, arith, subst}
 use Rattle.framehop_callers.specs.Step.{Source, goes, given_up}
 use Rattle.framehop_callers.specs.Step as step
-use Rattle.framehop_callers.specs.Run.{MOST_STEPS, run_from}
+use Rattle.framehop_callers.specs.Run.{run_from}
 use Rattle.framehop_callers.proofs.Runs.{after_step, no_step, both_step}
 use Rattle.framehop_callers.proofs.run.run_together.Goals as goal
 

@@ -1,4 +1,4 @@
-use Rattle.std.proofs.Common.{◌≡◌, ◌≤◌, ◌<◌, ◌+◌, ◌++◌, ◌∙◌, ℕ, List, [], ◌∷◌, length, get_or, string_bytes, sym, ap, append_assoc, append-nil, rules}
+use Rattle.std.proofs.Common.{◌≤◌, ◌+◌, ◌++◌, ◌∙◌, [], length, string_bytes, ap, append_assoc, rules}
 use Rattle.framehop.specs.Policy.{with_allocation}
 use Rattle.framehop_explain.specs.Found.{explaining_by}
 use Rattle.framehop_explain_cli.specs.Functions.{line}

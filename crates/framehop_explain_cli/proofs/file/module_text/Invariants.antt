@@ -1,4 +1,4 @@
-use Rattle.std.proofs.Common.{◌≡◌, ◌++◌, ℕ, List, [], ◌∷◌, string_bytes}
+use Rattle.std.proofs.Common.{◌≡◌, ◌++◌, ℕ, List, string_bytes}
 use Rattle.framehop.specs.Policy.{with_allocation}
 use Rattle.framehop_explain.specs.DataText.{IsDataText}
 use Rattle.framehop_explain.specs.Found.{explaining_by}

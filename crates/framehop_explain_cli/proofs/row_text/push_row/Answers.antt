@@ -1,5 +1,4 @@
-use Rattle.std.proofs.Common.{◌+◌, ◌<◌, ◌≤◌, ◌++◌, ◌∙◌, string_bytes, sym, ap, append_assoc, codes, rules, arith}
-use Rattle.framehop_explain_cli.specs.RowText.{cfa_text, column_text, columns_text}
+use Rattle.std.proofs.Common.{◌+◌, ◌<◌, ◌≤◌, ◌∙◌, string_bytes, sym, ap, rules, arith}
 use Rattle.framehop_explain_cli.proofs.RowLemmas.{left, next, end}
 use Rattle.framehop_explain_cli.proofs.row_text.push_row.Goals as goal
 
