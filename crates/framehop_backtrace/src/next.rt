@@ -36,10 +36,11 @@ use std::alloc::{AllocError, Global};
 ///    leaves unknown of the registers that the function restores, since a word can't be read, is taken from running its
 ///    code, where that comes to the same return address and stack pointer: after a `pop` the word is below the stack
 ///    pointer.
-/// 3. A frame of x86_64 that call frames of its module do not cover, or whose row needs a register or a word that isn't
-///    known, but for the word in which the return address is stored, has its caller by running its code, if that returns
-///    to an address right after a call, or after code that nobody has. In a walk the row is first tried over the registers
-///    that a run of the callee's code knows.
+/// 3. A frame that call frames of its module do not cover, or whose row needs a register or a word that isn't known, but
+///    for the word in which the return address is stored, has its caller by running its code, if that returns to an
+///    address right after a call, or after code that nobody has. A run knows the words of the memory, and where that has
+///    none those that the mapped files have in constant data. In a walk the row is first tried over the registers that a
+///    run of the callee's code knows.
 /// 4. Else the library's step is taken, over the registers that it has. The rule of a function's start is a guess: its
 ///    return address is compared with that of the frame pointer, and taken unless that is likelier, or as likely in a
 ///    function that has set its frame pointer. Either must lie right

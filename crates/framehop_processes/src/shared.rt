@@ -153,7 +153,7 @@ impl Tree {
         }
     }
 
-    /// Returns whether one of these mappings has an address of a new one.
+    /// Looks for a mapping that has an address of a new one, by a way down the tree.
     fn overlaps(&self, new: Mapping) -> bool
         requires { IsInOrder 0 self.now }
         ensures { result ≡ list_any (overlaps new) self.now }
