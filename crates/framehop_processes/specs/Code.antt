@@ -16,7 +16,7 @@ abbrev pub segment_code : Segment → FilePart
 segment_code segment = record {
   start = segment.address;
   offset = segment.offset;
-  size = if segment.is_code then segment.file_size else 0;
+  size = segment.file_size;
 }
 
 -- a part of a file has a stated address

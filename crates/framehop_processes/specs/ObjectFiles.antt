@@ -233,18 +233,26 @@ pub record PartView : Type 0 where
 abbrev pub part_view : List ℕ → FilePart → PartView
 part_view file part = record { start = part.start; bytes = take part.size (drop part.offset file) }
 
--- the code of all segments; of one that may not be executed it has no bytes
+-- A file may state any number of parts, of which a run looks for an address in each: so the first 64 are kept. Linkers make
+-- fewer than ten that may be executed, and about twenty with data.
+abbrev pub most_parts : ℕ
+most_parts = 64
+
+-- the code of the segments that may be executed
 abbrev pub code_view : FileCode → List PartView
 code_view code = map (part_view code.file.items) code.segments.items
 
 abbrev pub code_of_segment : List ℕ → Segment → PartView
 code_of_segment file segment = record {
   start = segment.address;
-  bytes = take (if segment.is_code then segment.file_size else 0) (drop segment.offset file);
+  bytes = take segment.file_size (drop segment.offset file);
 }
 
+abbrev pub code_segments : List Segment → List Segment
+code_segments segments = take most_parts (filter (λ segment. segment.is_code) segments)
+
 abbrev pub code_of : List ℕ → List Segment → List PartView
-code_of file segments = map (code_of_segment file) segments
+code_of file segments = map (code_of_segment file) (code_segments segments)
 
 -- the data that no process changes: of sections that are loaded (`SHF_ALLOC`), that a process may not write (`SHF_WRITE`),
 -- and that have bytes in the file (System V gABI, "Sections")
@@ -263,7 +271,7 @@ abbrev pub part_of_section : SectionHeader → FilePart
 part_of_section section = record { start = section.sh_addr; offset = section.sh_offset; size = section.sh_size }
 
 abbrev pub constant_parts : List SectionHeader → List FilePart
-constant_parts sections = map part_of_section (filter is_constant sections)
+constant_parts sections = map part_of_section (take most_parts (filter is_constant sections))
 
 abbrev pub constants_of : List ℕ → List SectionHeader → List PartView
 constants_of file sections = map (part_view file) (constant_parts sections)

@@ -1,7 +1,7 @@
 //! The code of the files that processes map.
 ghost use Rattle.std.specs.Prelude.{◌≡◌, IfOk, map, option_map};
 ghost use Rattle.framehop_processes.specs.Mappings.{IsInOrder};
-ghost use Rattle.framehop_processes.specs.ObjectFiles.{part_view, code_view, code_of};
+ghost use Rattle.framehop_processes.specs.ObjectFiles.{part_view, code_view, code_segments, code_of};
 ghost use Rattle.framehop_processes.specs.Code.{segment_code, has_svma, bytes_from, code_in_mapping, code_at, is_mapped, entry_in_mapping, is_at_entry};
 
 use crate::Mapping;
@@ -15,7 +15,7 @@ use std::alloc::{AllocError, Global};
 #[derive(Drop)]
 pub struct FileCode {
     file: Vec<u8>,
-    /// How much of each segment is code: nothing where it may not be executed.
+    /// The segments that may be executed.
     segments: Vec<FilePart>,
 }
 
@@ -29,6 +29,9 @@ pub(crate) struct FilePart {
     /// How many bytes of it are in the file.
     pub(crate) size: u64,
 }
+
+/// The most parts of a file in which code is looked for, and data.
+pub(crate) const MOST_PARTS: usize = 64;
 
 /// The size of a file whose code is large, in bytes: 16 MiB.
 const LARGE: usize = 0x100_0000;
@@ -101,7 +104,7 @@ fn code_in_mapping<'a>(files: &'a Files<'_>, mapping: Mapping, address: u64) -> 
     object.code_from(address.saturating_sub(mapping.base_avma))
 }
 
-/// Returns the code of a file by its segments. The file's bytes are kept.
+/// Returns the code of a file by its segments, the first 64 that may be executed. The file's bytes are kept.
 pub(crate) fn code_of(
     alloc: Global,
     file: Vec<u8>,
@@ -114,12 +117,14 @@ pub(crate) fn code_of(
     Ok(FileCode { file, segments })
 }
 
-/// Returns where the bytes of segments are in their file.
+/// Returns where the bytes of the segments of code are in their file.
 fn segments_in(alloc: Global, segments: &[Segment]) -> Result<Vec<FilePart>, AllocError>
-    ensures { IfOk result (λ code. code.items ≡ map segment_code segments.now) }
+    ensures { IfOk result (λ code. code.items ≡ map segment_code (code_segments segments.now)) }
 {
     segments
         .iter()
+        .filter(|segment| segment.is_code)
+        .take(MOST_PARTS)
         .map(|segment| segment_code(*segment))
         .collect(alloc)
 }
@@ -139,11 +144,7 @@ fn segment_code(segment: Segment) -> FilePart
     FilePart {
         start: segment.address,
         offset: segment.offset,
-        size: if segment.is_code {
-            segment.file_size
-        } else {
-            0
-        },
+        size: segment.file_size,
     }
 }
 

@@ -5,7 +5,7 @@ ghost use Rattle.framehop_processes.specs.ObjectFiles.{is_constant, part_of_sect
 ghost use Rattle.framehop_processes.specs.Constants.{first_word, constant_in_mapping, last_by, mapping_before, constant_at};
 
 use crate::Mapping;
-use crate::code::FilePart;
+use crate::code::{FilePart, MOST_PARTS};
 use crate::files::Files;
 use framehop_bytes::bytes::read_u64;
 use framehop_object::elf::section::SHT_NOBITS;
@@ -75,7 +75,7 @@ pub(crate) fn first_word(bytes: &[u8]) -> Option<u64>
     }
 }
 
-/// Returns where the data of a file is that no process changes, by its sections.
+/// Returns where the data of a file is that no process changes, by its first 64 sections that have some.
 pub(crate) fn constant_parts(
     alloc: Global,
     sections: &[SectionHeader],
@@ -85,6 +85,7 @@ pub(crate) fn constant_parts(
     sections
         .iter()
         .filter(|section| is_constant(section))
+        .take(MOST_PARTS)
         .map(part_of)
         .collect(alloc)
 }
