@@ -77,6 +77,21 @@ def code_file(size):
     return (head + code).ljust(size, b"\xcc")
 
 
+def file_of_parts(code, segments, sections):
+    """An ELF file with code after its header, and with as many further segments and sections, which lie far above it. The code is
+    in the last segment."""
+    headers_at = 64 + len(code)
+    table_at = headers_at + 56 * (segments + 1)
+    end = table_at + 64 * (sections + 2)
+    load = lambda start, offset, size: struct.pack("<IIQQQQQQ", 1, 5, offset, start, start, size, size, 1)
+    section = lambda kind, start, size: struct.pack("<IIQQQQIIQQ", 0, kind, 2, start, end, size, 0, 0, 1, 0)
+    headers = [load(0x4000_0000 + 8 * number, end, 8) for number in range(segments)] + [load(0, 0, headers_at)]
+    table = [section(0, 0, 0), section(3, 0, 1)] + [section(1, 0x6000_0000 + 8 * number, 8) for number in range(sections)]
+    head = b"\x7fELF\2\1\1" + bytes(9)
+    head += struct.pack("<HHIQQQIHHHHHH", 3, 62, 1, 0, headers_at, table_at, 0, 64, 56, len(headers), 64, len(table), 1)
+    return head + code + b"".join(headers) + b"".join(table) + bytes(8)
+
+
 def build_id_record(name, at):
     build_id = struct.pack("<I", at) * 5
     return record(0, BUILD_ID_SIZE, struct.pack("<i", -1) + build_id + bytes([20, 0, 0, 0]) + padded(name))
@@ -227,6 +242,28 @@ def large_file(count):
     return sampled_once(["/srv/a"]) | {"root/srv/a": count << 20}
 
 
+def run_over(segments, sections, samples=64):
+    """Samples before 4,000 loads of words that are in no file, in a mapped file with as many segments and sections."""
+    code = b"\x48\x8b\x05\0\0\0\1" * 4000 + b"\xc3"
+    made = [mapping(1, FIRST, 8 * PAGE, "/srv/a")] + samples * [sample_of_x86_64(1, FIRST + 64)]
+    return recording(made) | {"root/srv/a": file_of_parts(code, segments, sections)}
+
+
+def segments(count):
+    """A mapped file of as many segments, of which the last has the code of the samples."""
+    return run_over(count, 0)
+
+
+def sections(count):
+    """A mapped file of as many sections, in each of which a run of the samples' code may look for a word."""
+    return run_over(0, count)
+
+
+def runs(count):
+    """A run of 4,000 instructions for each sample."""
+    return run_over(0, 0, count)
+
+
 def anonymous(count, perf_map):
     """A process of code in no file, with as many samples and a map of perf."""
     made = [mapping(1, FIRST, PAGE * count, "//anon")] + [sample_of_x86_64(1, FIRST + PAGE * at + 8) for at in range(count)]
@@ -258,8 +295,8 @@ def write(folder, made):
 
 KINDS = {function.__name__.replace("_", "-"): function for function in (
     maps, maps_down, split, over, over_all, forks, forks_map, forks_sampled, forks_map_sampled, forks_map_apart_sampled,
-    forks_in_turn_sampled, maps_down_sampled, samples, build_ids, names, ids, files, names_of_one_file, large_file, map_of_perf,
-    large_map_of_perf)}
+    forks_in_turn_sampled, maps_down_sampled, samples, build_ids, names, ids, files, names_of_one_file, large_file, segments,
+    sections, runs, map_of_perf, large_map_of_perf)}
 
 if __name__ == "__main__":
     if len(sys.argv) != 4 or sys.argv[1] not in KINDS:
