@@ -9,7 +9,7 @@ use framehop_cfi::rule::RegisterRule;
 use framehop_core::{Error, FrameAddress};
 
 /// How a frame was found.
-#[derive(Clone, Copy, Debug, PartialEq, Eq)]
+#[derive(Clone, Copy, PartialEq, Eq)]
 pub enum FoundBy {
     /// It is the one from which the backtrace starts.
     First,
@@ -33,7 +33,7 @@ pub enum FoundBy {
 }
 
 /// How a backtrace ended.
-#[derive(Clone, Copy, Debug, PartialEq, Eq)]
+#[derive(Clone, Copy, PartialEq, Eq)]
 pub enum BacktraceEnd {
     /// Unwind data says that the last frame is the outermost one.
     Root,

@@ -7,7 +7,7 @@ use crate::memory::{CodeMemory, is_in_code, is_unread};
 use framehop_core::Error;
 
 /// What the code before an address tells of a call to a function from there.
-#[derive(Clone, Copy, Debug, PartialEq, Eq)]
+#[derive(Clone, Copy)]
 pub(crate) enum Evidence {
     /// The address lies in no code, or after no call.
     NoCall,

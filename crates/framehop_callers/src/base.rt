@@ -8,7 +8,7 @@ use framehop_cfi::rule::{CfaRule, Register};
 use framehop_dwarf::operation::{Operation, read_operation};
 
 /// What the CFA of a row counts from.
-#[derive(Clone, Copy, Debug, PartialEq, Eq)]
+#[derive(Clone, Copy, PartialEq, Eq)]
 pub enum CfaBase {
     /// A register.
     Register(Register),

@@ -25,7 +25,7 @@ pub struct Caller {
 }
 
 /// Why a row gives no caller.
-#[derive(Clone, Copy, Debug, PartialEq, Eq)]
+#[derive(Clone, Copy, PartialEq, Eq)]
 pub enum RowRefusal {
     /// The return address is undefined: the frame is the outermost one.
     Outermost,

@@ -7,7 +7,7 @@ use framehop_cfi::{aarch64, x86_64};
 use framehop_code::action::Registers;
 
 /// The calling convention of an architecture.
-#[derive(Clone, Copy, Debug, PartialEq, Eq)]
+#[derive(Clone, Copy, PartialEq, Eq)]
 pub enum Convention {
     /// System V ABI for AMD64
     X86_64,

@@ -12,7 +12,7 @@ const DW_OP_DEREF: u8 = 0x06;
 const DW_OP_DEREF_SIZE: u8 = 0x94;
 
 /// How many bytes an operation reads.
-#[derive(Clone, Copy, Debug, PartialEq, Eq)]
+#[derive(Clone, Copy, PartialEq, Eq)]
 pub enum Width {
     One,
     Two,

@@ -50,7 +50,7 @@ pub trait RunMemory: WordMemory {
 }
 
 /// How a run goes on.
-#[derive(Clone, Copy, Debug, PartialEq, Eq)]
+#[derive(Clone, Copy, PartialEq, Eq)]
 pub enum Step {
     /// To another instruction of the function, or of one that it has entered.
     Goes,

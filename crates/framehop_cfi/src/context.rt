@@ -51,7 +51,7 @@ impl<S: UnwindContextStorage> Model for UnwindContext<S> {
 }
 
 /// Where the rows of an FDE have got to.
-#[derive(Clone, Copy, Debug, PartialEq, Eq)]
+#[derive(Clone, Copy)]
 pub struct RowCursor {
     /// The offset in the section of the instruction that is next.
     pub next: usize,

@@ -47,7 +47,7 @@ pub enum EntryHead {
 }
 
 /// A common information entry (CIE): what the FDEs that name it share.
-#[derive(Clone, Copy, Debug, PartialEq, Eq)]
+#[derive(Clone, Copy)]
 pub struct CommonInformationEntry {
     /// What an advance of the location is multiplied by.
     pub code_alignment_factor: u64,
@@ -64,7 +64,7 @@ pub struct CommonInformationEntry {
 }
 
 /// A frame description entry (FDE): a function's range and its instructions.
-#[derive(Clone, Copy, Debug, PartialEq, Eq)]
+#[derive(Clone, Copy)]
 pub struct FrameDescriptionEntry {
     /// The CIE that it names.
     pub cie: CommonInformationEntry,

@@ -15,7 +15,7 @@ use crate::read_error::ReadError;
 use crate::rule::{CfaRule, Expression, Register, RegisterRule};
 
 /// A call frame instruction. Factored offsets are multiplied out.
-#[derive(Clone, Copy, Debug, PartialEq, Eq)]
+#[derive(Clone, Copy)]
 pub enum CallFrameInstruction {
     /// `DW_CFA_nop`: nothing.
     Nop,

@@ -8,7 +8,7 @@ use crate::numbers::{read_u16, read_u32, read_u64};
 use crate::read_error::ReadError;
 
 /// Where a module's sections lie, as stated virtual memory addresses (SVMA); 0 for one that is not there.
-#[derive(Clone, Copy, Debug, Default, PartialEq, Eq)]
+#[derive(Clone, Copy, Default, PartialEq, Eq)]
 pub struct BaseAddresses {
     /// The start of `.eh_frame`.
     pub eh_frame: u64,
@@ -21,7 +21,7 @@ pub struct BaseAddresses {
 }
 
 /// The addresses that a section's pointers count from (SVMA).
-#[derive(Clone, Copy, Debug, PartialEq, Eq)]
+#[derive(Clone, Copy, PartialEq, Eq)]
 pub struct SectionBaseAddresses {
     /// The section's first byte.
     pub section: u64,

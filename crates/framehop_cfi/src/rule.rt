@@ -1,11 +1,11 @@
 //! How a caller's registers are found: the CFA's rule and a register's (DWARF 5 section 6.4.1).
 
 /// A DWARF register number.
-#[derive(Clone, Copy, Debug, PartialEq, Eq)]
+#[derive(Clone, Copy, PartialEq, Eq)]
 pub struct Register(pub u16);
 
 /// An expression's bytes, as offsets into the section.
-#[derive(Clone, Copy, Debug, PartialEq, Eq)]
+#[derive(Clone, Copy, PartialEq, Eq)]
 pub struct Expression {
     /// Where it begins.
     pub start: usize,
@@ -14,7 +14,7 @@ pub struct Expression {
 }
 
 /// How the canonical frame address (CFA) is found.
-#[derive(Clone, Copy, Debug, PartialEq, Eq)]
+#[derive(Clone, Copy, PartialEq, Eq)]
 pub enum CfaRule {
     /// A register plus a number of bytes.
     RegisterAndOffset { register: Register, offset: i64 },
@@ -23,7 +23,7 @@ pub enum CfaRule {
 }
 
 /// How a register of the caller is found.
-#[derive(Clone, Copy, Debug, PartialEq, Eq)]
+#[derive(Clone, Copy, PartialEq, Eq)]
 pub enum RegisterRule {
     /// It can't be found.
     Undefined,

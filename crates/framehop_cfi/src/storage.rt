@@ -3,7 +3,7 @@ ghost use Rattle.std.specs.Prelude.{◌≡◌, Option, Some, None};
 ghost use Rattle.framehop_cfi.specs.declared.storage.StorageLimits.{StorageLimits};
 
 /// The most that a context holds.
-#[derive(Clone, Copy, Debug, PartialEq, Eq)]
+#[derive(Clone, Copy)]
 pub struct StorageLimits {
     /// The most register rules of a row.
     pub rules: usize,
@@ -21,7 +21,7 @@ pub trait UnwindContextStorage {
 }
 
 /// Rows grow in memory as they are read.
-#[derive(Clone, Copy, Debug)]
+#[derive(Clone, Copy)]
 pub struct StoreOnHeap;
 
 impl UnwindContextStorage for StoreOnHeap {
@@ -34,7 +34,7 @@ impl UnwindContextStorage for StoreOnHeap {
 
 /// Rows have at most 192 register rules, and 3 of them can be remembered. Reading one never returns
 /// `OutOfMemory`.
-#[derive(Clone, Copy, Debug)]
+#[derive(Clone, Copy)]
 pub struct StoreOnStack;
 
 impl UnwindContextStorage for StoreOnStack {

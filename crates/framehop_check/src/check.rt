@@ -24,7 +24,7 @@ use framehop_code::effect::{Code, Effect, Flow};
 use std::alloc::{AllocError, Global};
 
 /// An instruction with what its row says.
-#[derive(Clone, Copy, Debug, PartialEq, Eq)]
+#[derive(Clone, Copy)]
 pub struct Item {
     /// SVMA.
     pub address: u64,
@@ -37,7 +37,7 @@ pub struct Item {
 }
 
 /// Where the check has got to.
-#[derive(Clone, Copy, Debug, PartialEq, Eq)]
+#[derive(Clone, Copy)]
 pub(crate) struct Pass {
     pub tracked: Tracked,
     /// The address of the instruction before (SVMA).

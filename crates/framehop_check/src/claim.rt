@@ -8,7 +8,7 @@ use framehop_cfi::storage::UnwindContextStorage;
 use framehop_code::effect::{Base, Code};
 
 /// What a row says of the CFA.
-#[derive(Clone, Copy, Debug, PartialEq, Eq)]
+#[derive(Clone, Copy, PartialEq, Eq)]
 pub enum Claim {
     /// It is so many bytes above the stack pointer or the frame pointer.
     Above { base: Base, offset: i64 },

@@ -12,7 +12,7 @@ use framehop_cfi::read_error::ReadError;
 use std::alloc::{AllocError, Global};
 
 /// An entry of a call frame section.
-#[derive(Clone, Copy, Debug, PartialEq, Eq)]
+#[derive(Clone, Copy)]
 pub enum Entry {
     Fde(FrameDescriptionEntry),
     /// A CIE.
@@ -22,7 +22,7 @@ pub enum Entry {
 }
 
 /// Where an entry is.
-#[derive(Clone, Copy, Debug, PartialEq, Eq)]
+#[derive(Clone, Copy, PartialEq, Eq)]
 pub enum Place {
     /// At an offset of the section.
     At(usize),

@@ -6,7 +6,7 @@ use crate::claim::Claim;
 use framehop_code::effect::{Base, Change, Effect};
 
 /// How far the CFA is above the two registers, in bytes, where that is known.
-#[derive(Clone, Copy, Debug, PartialEq, Eq)]
+#[derive(Clone, Copy, PartialEq, Eq)]
 pub struct Known {
     pub sp: Option<i64>,
     pub fp: Option<i64>,

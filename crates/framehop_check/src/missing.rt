@@ -7,7 +7,7 @@ ghost use Rattle.framehop_check.specs.Missing.{is_in, is_missing, IsInOrder, IsW
 use std::alloc::{AllocError, Global};
 
 /// The addresses from a start to before an end (SVMA).
-#[derive(Clone, Copy, Debug, PartialEq, Eq)]
+#[derive(Clone, Copy, PartialEq, Eq)]
 pub struct Range {
     pub start: u64,
     pub end: u64,

@@ -6,7 +6,7 @@ use crate::tracked::Fault;
 use std::alloc::{AllocError, Global};
 
 /// A contradiction between unwind data and code.
-#[derive(Clone, Copy, Debug, PartialEq, Eq)]
+#[derive(Clone, Copy)]
 pub struct Alarm {
     /// The address of the instruction that has the row, that returns or that jumps (SVMA).
     pub address: u64,
@@ -16,7 +16,7 @@ pub struct Alarm {
 }
 
 /// How much has been checked.
-#[derive(Clone, Copy, Debug, PartialEq, Eq)]
+#[derive(Clone, Copy, PartialEq, Eq)]
 pub struct Counts {
     /// FDEs.
     pub functions: u64,

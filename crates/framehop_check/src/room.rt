@@ -5,7 +5,7 @@ ghost use Rattle.framehop_check.specs.Room.{room_of, instructions_of, is_enough,
 use framehop_cfi::entry::FrameDescriptionEntry;
 
 /// How much is checked yet.
-#[derive(Clone, Copy, Debug, PartialEq, Eq)]
+#[derive(Clone, Copy)]
 pub struct Room {
     /// Bytes of code.
     pub code: usize,

@@ -13,7 +13,7 @@ use framehop_code::effect::Code;
 use std::alloc::AllocError;
 
 /// Addresses from a start to before an end (SVMA) whose row says so of the CFA.
-#[derive(Clone, Copy, Debug, PartialEq, Eq)]
+#[derive(Clone, Copy)]
 pub struct Span {
     pub start: u64,
     pub end: u64,

@@ -7,7 +7,7 @@ use crate::known::{Known, after, agreed, known_of, nothing};
 use framehop_code::effect::{Base, Change, Code, Effect, Flow};
 
 /// How an instruction is come to.
-#[derive(Clone, Copy, Debug, PartialEq, Eq)]
+#[derive(Clone, Copy, PartialEq, Eq)]
 pub enum Came {
     /// From the instruction before.
     Next,
@@ -18,7 +18,7 @@ pub enum Came {
 }
 
 /// What is known between two instructions.
-#[derive(Clone, Copy, Debug, PartialEq, Eq)]
+#[derive(Clone, Copy)]
 pub struct Tracked {
     pub known: Known,
     /// What the row of the instruction before says.
@@ -31,7 +31,7 @@ pub struct Tracked {
 }
 
 /// What contradicts what.
-#[derive(Clone, Copy, Debug, PartialEq, Eq)]
+#[derive(Clone, Copy)]
 pub enum Fault {
     /// The row says that the CFA is `row` bytes above the register, the code that it is `code` bytes.
     Differs {

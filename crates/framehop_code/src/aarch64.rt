@@ -18,7 +18,7 @@ use framehop_cfi::rule::Register;
 use instruction::read_instruction;
 
 /// The instructions of aarch64.
-#[derive(Clone, Copy, Debug)]
+#[derive(Clone, Copy)]
 pub struct CodeAarch64;
 
 impl Code for CodeAarch64 {

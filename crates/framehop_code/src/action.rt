@@ -5,7 +5,7 @@
 use framehop_cfi::rule::Register;
 
 /// An instruction.
-#[derive(Clone, Copy, Debug, PartialEq, Eq)]
+#[derive(Clone, Copy, PartialEq, Eq)]
 pub struct Instruction {
     /// In bytes.
     pub size: usize,
@@ -13,7 +13,7 @@ pub struct Instruction {
 }
 
 /// What an instruction does.
-#[derive(Clone, Copy, Debug, PartialEq, Eq)]
+#[derive(Clone, Copy, PartialEq, Eq)]
 pub enum Action {
     /// An operand gets a value: MOV, MOVSXD and LEA, and XOR or SUB of a register with itself; of aarch64 loads and stores,
     /// MOV, ADR, and ADD or SUB of a number.
@@ -59,7 +59,7 @@ pub enum Action {
 }
 
 /// Bytes of memory that get any value.
-#[derive(Clone, Copy, Debug, PartialEq, Eq)]
+#[derive(Clone, Copy, PartialEq, Eq)]
 pub struct Stored {
     /// Where they begin.
     pub at: Place,
@@ -68,7 +68,7 @@ pub struct Stored {
 }
 
 /// A place in memory.
-#[derive(Clone, Copy, Debug, PartialEq, Eq)]
+#[derive(Clone, Copy, PartialEq, Eq)]
 pub enum Place {
     At(Address),
     /// At an address that is not described: by FS or GS, in 32 bits (a prefix 67), by a register that no operand names,
@@ -77,7 +77,7 @@ pub enum Place {
 }
 
 /// An operand that can be written.
-#[derive(Clone, Copy, Debug, PartialEq, Eq)]
+#[derive(Clone, Copy, PartialEq, Eq)]
 pub enum Operand {
     /// A general register.
     Register(Register),
@@ -86,7 +86,7 @@ pub enum Operand {
 }
 
 /// A value.
-#[derive(Clone, Copy, Debug, PartialEq, Eq)]
+#[derive(Clone, Copy, PartialEq, Eq)]
 pub enum Source {
     /// The value of an operand.
     Operand(Operand),
@@ -101,14 +101,14 @@ pub enum Source {
 }
 
 /// How many bytes are written and computed with. Four of a register make its upper half 0.
-#[derive(Clone, Copy, Debug, PartialEq, Eq)]
+#[derive(Clone, Copy, PartialEq, Eq)]
 pub enum Width {
     Four,
     Eight,
 }
 
 /// What is computed of two numbers. A carry is lost.
-#[derive(Clone, Copy, Debug, PartialEq, Eq)]
+#[derive(Clone, Copy, PartialEq, Eq)]
 pub enum Computation {
     Add,
     Subtract,
@@ -118,7 +118,7 @@ pub enum Computation {
 }
 
 /// An address (AVMA): the sum of its parts modulo 2^64.
-#[derive(Clone, Copy, Debug, PartialEq, Eq)]
+#[derive(Clone, Copy, PartialEq, Eq)]
 pub struct Address {
     /// The register that is added.
     pub base: Option<Register>,
@@ -131,7 +131,7 @@ pub struct Address {
 }
 
 /// An index register of an address.
-#[derive(Clone, Copy, Debug, PartialEq, Eq)]
+#[derive(Clone, Copy, PartialEq, Eq)]
 pub struct Index {
     pub register: Register,
     /// 1, 2, 4 or 8.
@@ -139,5 +139,5 @@ pub struct Index {
 }
 
 /// A set of general registers: a bit for each, from the lowest, by its DWARF number.
-#[derive(Clone, Copy, Debug, PartialEq, Eq)]
+#[derive(Clone, Copy, PartialEq, Eq)]
 pub struct Registers(pub u32);

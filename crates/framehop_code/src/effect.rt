@@ -5,7 +5,7 @@ ghost use Rattle.framehop_code.specs.declared.effect.Effect.{Effect};
 ghost use Rattle.framehop_code.specs.Effect.{kept, plain, with_register};
 
 /// A register by which a frame is found.
-#[derive(Clone, Copy, Debug, PartialEq, Eq)]
+#[derive(Clone, Copy, PartialEq, Eq)]
 pub enum Base {
     /// The stack pointer: `rsp`, or `sp` on aarch64.
     Sp,
@@ -14,7 +14,7 @@ pub enum Base {
 }
 
 /// The value of a register after an instruction, by the values before it.
-#[derive(Clone, Copy, Debug, PartialEq, Eq)]
+#[derive(Clone, Copy, PartialEq, Eq)]
 pub enum Change {
     /// The value of a register plus a number of bytes.
     Sum { base: Base, offset: i64 },
@@ -23,7 +23,7 @@ pub enum Change {
 }
 
 /// Where an instruction leads.
-#[derive(Clone, Copy, Debug, PartialEq, Eq)]
+#[derive(Clone, Copy, PartialEq, Eq)]
 pub enum Flow {
     /// To the next instruction.
     Next,
@@ -42,7 +42,7 @@ pub enum Flow {
 }
 
 /// An instruction, as far as unwinding needs it.
-#[derive(Clone, Copy, Debug, PartialEq, Eq)]
+#[derive(Clone, Copy)]
 pub struct Effect {
     /// The size, in bytes.
     pub size: usize,

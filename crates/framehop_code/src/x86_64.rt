@@ -17,7 +17,7 @@ use framehop_cfi::x86_64::{RA, RBP, RSP};
 use instruction::read_instruction;
 
 /// The instructions of x86_64, in 64-bit mode.
-#[derive(Clone, Copy, Debug)]
+#[derive(Clone, Copy)]
 pub struct CodeX86_64;
 
 impl Code for CodeX86_64 {

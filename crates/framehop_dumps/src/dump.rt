@@ -8,7 +8,7 @@ use framehop_memory::code::CodeSegments;
 use framehop_memory::memory::ProcessMemory;
 
 /// Which kind of file tells of a process.
-#[derive(Clone, Copy, Debug, PartialEq, Eq)]
+#[derive(Clone, Copy)]
 pub enum Kind {
     /// A core file.
     CoreFile,
@@ -36,7 +36,7 @@ pub enum Registers<'a> {
 }
 
 /// Why a thread ended its process.
-#[derive(Clone, Copy, Debug, PartialEq, Eq)]
+#[derive(Clone, Copy)]
 pub enum Cause {
     /// A signal of Linux.
     Signal(Signal),
@@ -47,7 +47,7 @@ pub enum Cause {
 }
 
 /// A signal of Linux.
-#[derive(Clone, Copy, Debug, PartialEq, Eq)]
+#[derive(Clone, Copy, PartialEq, Eq)]
 pub struct Signal {
     /// Its number.
     pub number: u32,
@@ -56,7 +56,7 @@ pub struct Signal {
 }
 
 /// Why a signal was sent.
-#[derive(Clone, Copy, Debug, PartialEq, Eq)]
+#[derive(Clone, Copy, PartialEq, Eq)]
 pub struct Sent {
     /// `si_code`, a signed number of 32 bits.
     pub code: u32,
@@ -65,7 +65,7 @@ pub struct Sent {
 }
 
 /// An exception of Windows.
-#[derive(Clone, Copy, Debug, PartialEq, Eq)]
+#[derive(Clone, Copy)]
 pub struct Exception {
     /// Its code.
     pub code: u32,
@@ -76,7 +76,7 @@ pub struct Exception {
 }
 
 /// An access to memory.
-#[derive(Clone, Copy, Debug, PartialEq, Eq)]
+#[derive(Clone, Copy, PartialEq, Eq)]
 pub struct Access {
     /// 0 to read, 1 to write, 8 to execute.
     pub kind: u64,

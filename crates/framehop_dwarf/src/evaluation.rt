@@ -24,7 +24,7 @@ pub trait DwarfUnwindRegs {
 }
 
 /// Why an evaluation gives no value.
-#[derive(Clone, Copy, Debug, PartialEq, Eq)]
+#[derive(Clone, Copy, PartialEq, Eq)]
 pub enum Refusal {
     /// The expression has no value.
     NoValue,

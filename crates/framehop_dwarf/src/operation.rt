@@ -10,7 +10,7 @@ use framehop_cfi::read_error::ReadError;
 use framehop_cfi::rule::Register;
 
 /// An operation on the top value.
-#[derive(Clone, Copy, Debug, PartialEq, Eq)]
+#[derive(Clone, Copy, PartialEq, Eq)]
 pub enum UnaryOperation {
     /// `DW_OP_abs`
     Absolute,
@@ -21,7 +21,7 @@ pub enum UnaryOperation {
 }
 
 /// An operation on the second value and the top one.
-#[derive(Clone, Copy, Debug, PartialEq, Eq)]
+#[derive(Clone, Copy, PartialEq, Eq)]
 pub enum BinaryOperation {
     /// `DW_OP_and`
     And,
@@ -60,7 +60,7 @@ pub enum BinaryOperation {
 }
 
 /// An operation of an expression.
-#[derive(Clone, Copy, Debug, PartialEq, Eq)]
+#[derive(Clone, Copy, PartialEq, Eq)]
 pub enum Operation {
     /// `DW_OP_nop`
     Nop,

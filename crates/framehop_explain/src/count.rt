@@ -27,7 +27,7 @@ const INDEX_ENTRY: usize = 12;
 const RUNTIME_FUNCTION: usize = 12;
 
 /// How much unwind data a module has.
-#[derive(Clone, Copy, Debug, PartialEq, Eq)]
+#[derive(Clone, Copy)]
 pub(crate) enum UnwindDataCount {
     /// None that can be used.
     None,

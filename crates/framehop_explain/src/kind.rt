@@ -13,7 +13,7 @@ use framehop_dwarf::index::DwarfCfiIndexError;
 use std::fmt;
 
 /// What kind of unwind data a module has.
-#[derive(Clone, Copy, Debug, PartialEq, Eq)]
+#[derive(Clone, Copy)]
 pub enum UnwindDataKind {
     /// None.
     None,

@@ -12,7 +12,7 @@ use framehop_pe::unwind_info::function_table::RuntimeFunction;
 use std::fmt;
 
 /// What the FDE at an offset has for an address.
-#[derive(Clone, Copy, Debug, PartialEq, Eq)]
+#[derive(Clone, Copy, PartialEq, Eq)]
 pub enum RowSource {
     /// No FDE can be read at the offset.
     Unread(ReadError),
@@ -23,7 +23,7 @@ pub enum RowSource {
 }
 
 /// The place of a PE function that tells how to unwind from an address.
-#[derive(Clone, Copy, Debug, PartialEq, Eq)]
+#[derive(Clone, Copy, PartialEq, Eq)]
 pub enum PeSource {
     /// No function has the address: it is in a leaf function, which saves nothing.
     Leaf,
@@ -38,7 +38,7 @@ pub enum PeSource {
 }
 
 /// The place of compact unwind info that tells how to unwind from an address.
-#[derive(Clone, Copy, Debug, PartialEq, Eq)]
+#[derive(Clone, Copy, PartialEq, Eq)]
 pub enum CompactSource {
     /// In `__stubs`.
     Stub,
@@ -59,7 +59,7 @@ pub enum CompactSource {
 }
 
 /// Where the unwind data of a module tells how to unwind from an address.
-#[derive(Clone, Copy, Debug, PartialEq, Eq)]
+#[derive(Clone, Copy, PartialEq, Eq)]
 pub enum Source {
     /// The module has no unwind data, or its index was refused.
     NoUnwindData(Option<IndexRefusal>),

@@ -11,7 +11,7 @@ use framehop_pe::pe::PeUnwinderError;
 use std::alloc::AllocError;
 
 /// What the unwind data of a module tells for a frame.
-#[derive(Clone, Copy, Debug, PartialEq, Eq)]
+#[derive(Clone, Copy)]
 pub enum Told<R> {
     /// A rule.
     Rule(R),

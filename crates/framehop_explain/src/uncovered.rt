@@ -8,7 +8,7 @@ use framehop::Module;
 use framehop_bytes::section::SectionBytes;
 
 /// Why the last module that starts at or below an address does not cover it.
-#[derive(Clone, Copy, Debug, PartialEq, Eq)]
+#[derive(Clone, Copy, PartialEq, Eq)]
 pub enum Uncovered {
     /// No module starts at or below the address.
     NoModule,

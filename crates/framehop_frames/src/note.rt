@@ -19,7 +19,7 @@ use framehop_explain::{
 use std::alloc::{AllocError, Global};
 
 /// What a walk took for the caller of a frame.
-#[derive(Clone, Copy, Debug, PartialEq, Eq)]
+#[derive(Clone, Copy)]
 enum Taken {
     /// The library's step.
     Step,
@@ -36,7 +36,7 @@ enum Taken {
 }
 
 /// What the module of a frame has for it.
-#[derive(Clone, Copy, Debug, PartialEq, Eq)]
+#[derive(Clone, Copy)]
 pub enum Data {
     /// A row of call frame information, of which the library has a rule or the return address.
     Row,

@@ -12,7 +12,7 @@ use crate::step::unreadable;
 use framehop::{Error, FrameAddress, Unwinder};
 
 /// The stack word for which a step is refused.
-#[derive(Clone, Copy, Debug, PartialEq, Eq)]
+#[derive(Clone, Copy, PartialEq, Eq)]
 pub struct Wanted {
     /// Its address (AVMA), or `None` where the step is not refused for a word.
     pub address: Option<u64>,

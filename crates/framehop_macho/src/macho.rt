@@ -89,7 +89,7 @@ impl From<DwarfUnwinderError> for CompactUnwindInfoUnwinderError {
 }
 
 /// What compact unwind info says of a frame.
-#[derive(Clone, Copy, Debug, PartialEq, Eq)]
+#[derive(Clone, Copy, PartialEq, Eq)]
 pub enum CuiUnwindResult<R> {
     /// A rule.
     ExecRule(R),

@@ -4,7 +4,7 @@ use std::alloc::{AllocError, Global};
 use std::cell::Cell;
 
 /// A segment of memory that a file has, and its end, which was read.
-#[derive(Clone, Copy, Debug, PartialEq, Eq)]
+#[derive(Clone, Copy, PartialEq, Eq)]
 pub struct ReadPart {
     /// Where the file has the segment.
     pub segment: MemoryRange,

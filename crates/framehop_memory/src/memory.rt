@@ -7,7 +7,7 @@ use framehop_bytes::bytes::{back, front, u64_at};
 use std::alloc::{AllocError, Global};
 
 /// A range of memory, and where a file has its bytes.
-#[derive(Clone, Copy, Debug, PartialEq, Eq)]
+#[derive(Clone, Copy, PartialEq, Eq)]
 pub struct MemoryRange {
     /// Its first address (AVMA).
     pub start: u64,

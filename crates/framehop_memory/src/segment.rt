@@ -6,7 +6,7 @@ ghost use Rattle.framehop_memory.specs.Segment.{fits, is_loaded_from, segment_of
 pub(crate) const PAGE_SIZE: u64 = 4096;
 
 /// A part of a file that is loaded into memory.
-#[derive(Clone, Copy, Debug, PartialEq, Eq)]
+#[derive(Clone, Copy, PartialEq, Eq)]
 pub struct Segment {
     /// Its first address, as the file states it: an SVMA, or of a core file an AVMA.
     pub address: u64,

@@ -18,7 +18,7 @@ use framehop_recording::tasks::{Task, read_command, read_task};
 const KERNEL: u32 = u32::MAX;
 
 /// A change of the processes.
-#[derive(Clone, Copy, Debug, PartialEq, Eq)]
+#[derive(Clone, Copy, PartialEq, Eq)]
 pub enum Change {
     /// A process maps a file.
     Map { pid: u32, mapping: Mapping },

@@ -10,7 +10,7 @@ use std::alloc::{AllocError, Global};
 const DIGITS: usize = 9;
 
 /// A window of times, each in nanoseconds. One that is left out is no bound.
-#[derive(Clone, Copy, Debug, PartialEq, Eq)]
+#[derive(Clone, Copy, PartialEq, Eq)]
 pub struct Window {
     /// The first time.
     pub first: Option<u64>,

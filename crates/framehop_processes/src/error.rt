@@ -7,7 +7,7 @@ use thiserror::Error;
 
 /// Why a change of the processes is refused. Nothing has changed then, except that generations may
 /// have been drawn.
-#[derive(Clone, Copy, Debug, PartialEq, Eq, Error)]
+#[derive(Clone, Copy, Debug, Error)]
 pub enum ProcessesError {
     /// The mapping has no address: its end does not lie above its start.
     #[error("a mapping without an address")]

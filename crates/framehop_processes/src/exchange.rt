@@ -17,7 +17,7 @@ use std::alloc::Global;
 const MOST_CHANGES: usize = 64;
 
 /// What the next of two lists of mappings in order of start are.
-#[derive(Clone, Copy, Debug, PartialEq, Eq)]
+#[derive(Clone, Copy, PartialEq, Eq)]
 pub(crate) enum Step {
     /// The next of both are the same, and not the last of the first list.
     Keep,

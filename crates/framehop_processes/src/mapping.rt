@@ -1,6 +1,6 @@
 //! Mappings of files into the memory of a process.
 /// A mapping of a part of a file, that can be executed, into the memory of a process.
-#[derive(Clone, Copy, Debug, PartialEq, Eq)]
+#[derive(Clone, Copy, PartialEq, Eq)]
 pub struct Mapping {
     /// The first address (AVMA).
     pub start: u64,

@@ -6,7 +6,7 @@ use thiserror::Error;
 
 /// Why a recording, or a record of it, can't be read. Each offset is in bytes from the start of the
 /// file.
-#[derive(Clone, Copy, Debug, PartialEq, Eq, Error)]
+#[derive(Clone, Copy, Debug, Error)]
 pub enum RecordingError {
     /// The file ends before what is to be read at the offset.
     #[error("the file ends before what is to be read at offset {offset}")]

@@ -21,7 +21,7 @@ const OLD_HEADER_SIZE: u64 = 72;
 const PIPE_HEADER_SIZE: u64 = 16;
 
 /// Where a part of the file lies: `perf_file_section`.
-#[derive(Clone, Copy, Debug, PartialEq, Eq)]
+#[derive(Clone, Copy, PartialEq, Eq)]
 pub struct Section {
     /// In bytes from the start of the file.
     pub offset: u64,
@@ -30,7 +30,7 @@ pub struct Section {
 }
 
 /// The header of a recording: `perf_header`.
-#[derive(Clone, Copy, Debug, PartialEq, Eq)]
+#[derive(Clone, Copy)]
 pub struct Header {
     /// The size of an entry of the section `attributes`, in bytes.
     pub attribute_size: u64,

@@ -30,7 +30,7 @@ pub struct Command<'a> {
 }
 
 /// A thread that begins or ends.
-#[derive(Clone, Copy, Debug, PartialEq, Eq)]
+#[derive(Clone, Copy)]
 pub struct Task {
     /// The thread's process.
     pub pid: u32,

@@ -587,7 +587,7 @@ const UNDESCRIBED: [&[u8]; 12] = [
 #[test]
 fn tells_nothing_of_others(rt: HostRuntime) {
     for code in &UNDESCRIBED {
-        assert_eq!(rt; action_at(code, 0), None);
+        assert!(rt; action_at(code, 0).is_none());
     }
-    assert_eq!(rt; action_at(&[0x90], 2), None);
+    assert!(rt; action_at(&[0x90], 2).is_none());
 }

@@ -88,7 +88,7 @@ fn value_by(alloc: Global, rule: Option<RegisterRule>) -> Result<Option<u64>, Re
 #[test]
 fn register_rules(rt: HostRuntime) -> Result<(), Fail> {
     for (rule, expected) in RULES {
-        assert_eq!(rt; value_by(rt.alloc(), rule)?, expected, "{rule:?}");
+        assert_eq!(rt; value_by(rt.alloc(), rule)?, expected);
     }
     Ok(())
 }

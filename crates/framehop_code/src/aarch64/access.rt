@@ -17,7 +17,7 @@ use crate::action::{Action, Address, Index, Operand, Place, Source, Stored, Widt
 use framehop_cfi::rule::Register;
 
 /// What an access does with a register.
-#[derive(Clone, Copy, Debug, PartialEq, Eq)]
+#[derive(Clone, Copy)]
 pub(crate) enum Transfer {
     Load(Width),
     /// Four bytes, with their sign extended to eight.

@@ -26,7 +26,7 @@ use framehop_cfi::rule::Register;
 
 /// What an instruction of aarch64 does: up to three actions, one after another. All but the last are moves, or forget
 /// something.
-#[derive(Clone, Copy, Debug, PartialEq, Eq)]
+#[derive(Clone, Copy)]
 pub struct Actions {
     pub first: Action,
     pub second: Option<Action>,

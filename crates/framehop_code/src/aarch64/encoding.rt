@@ -10,7 +10,7 @@ use Class::{
 };
 
 /// What an instruction does, by its encoding.
-#[derive(Clone, Copy, Debug, PartialEq, Eq)]
+#[derive(Clone, Copy)]
 pub(crate) enum Class {
     /// Writes neither `sp` nor `x29`.
     Keep,
@@ -61,7 +61,7 @@ pub(crate) enum Class {
 }
 
 /// The words that have these bits of a mask.
-#[derive(Clone, Copy, Debug, PartialEq, Eq)]
+#[derive(Clone, Copy)]
 pub(crate) struct Encoding(pub u32, pub u32, pub Class);
 
 /// The encodings; of several that fit the first one counts.

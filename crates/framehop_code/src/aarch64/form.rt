@@ -13,7 +13,7 @@ use Form::{
 use Written::{Nothing, Rd, RdAndRn, RdAndRt2, RdOrSp, RdRnAndRs, Rs, RsPair, X16};
 
 /// What an instruction does, by its encoding.
-#[derive(Clone, Copy, Debug, PartialEq, Eq)]
+#[derive(Clone, Copy)]
 pub(crate) enum Form {
     /// Not described.
     Undescribed,
@@ -64,7 +64,7 @@ pub(crate) enum Form {
 }
 
 /// How a load or store has its address.
-#[derive(Clone, Copy, Debug, PartialEq, Eq)]
+#[derive(Clone, Copy)]
 pub(crate) enum Addressing {
     /// The base and an offset, if the form has one, in units of what is accessed.
     Offset,
@@ -79,7 +79,7 @@ pub(crate) enum Addressing {
 }
 
 /// Registers that an instruction writes. Of those but Rn and `RdOrSp` 31 is none.
-#[derive(Clone, Copy, Debug, PartialEq, Eq)]
+#[derive(Clone, Copy)]
 pub(crate) enum Written {
     Nothing,
     Rd,
@@ -97,7 +97,7 @@ pub(crate) enum Written {
 }
 
 /// Memory that an instruction writes.
-#[derive(Clone, Copy, Debug, PartialEq, Eq)]
+#[derive(Clone, Copy)]
 pub(crate) enum Bytes {
     Zero,
     /// 1, 2, 4 or 8 bytes at the base, by size.
@@ -111,7 +111,7 @@ pub(crate) enum Bytes {
 }
 
 /// The words that have these bits of a mask.
-#[derive(Clone, Copy, Debug, PartialEq, Eq)]
+#[derive(Clone, Copy)]
 pub(crate) struct Row(pub u32, pub u32, pub Form);
 
 /// The encodings; of several that fit the first one counts.

@@ -22,7 +22,7 @@ use framehop_cfi::read_error::ReadError;
 const LONGEST: usize = 15;
 
 /// The bits of a REX prefix, or those of VEX, EVEX or XOP that mean the same.
-#[derive(Clone, Copy, Debug, PartialEq, Eq)]
+#[derive(Clone, Copy)]
 pub struct Rex {
     /// Whether there is such a prefix.
     pub present: bool,
@@ -37,7 +37,7 @@ pub struct Rex {
 }
 
 /// The prefixes of an instruction.
-#[derive(Clone, Copy, Debug, PartialEq, Eq)]
+#[derive(Clone, Copy)]
 pub struct Prefixes {
     /// 66: the operand has 16 bits.
     pub operand_size: bool,
@@ -53,7 +53,7 @@ pub struct Prefixes {
 }
 
 /// The opcode map of an opcode.
-#[derive(Clone, Copy, Debug, PartialEq, Eq)]
+#[derive(Clone, Copy)]
 pub enum Map {
     /// Opcodes of one byte.
     OneByte,
@@ -68,7 +68,7 @@ pub enum Map {
 }
 
 /// What a prefix VEX, EVEX or XOP says besides the bits of `Prefixes`.
-#[derive(Clone, Copy, Debug, PartialEq, Eq)]
+#[derive(Clone, Copy)]
 pub struct Vector {
     /// The number of the opcode map.
     pub map: u8,
@@ -81,7 +81,7 @@ pub struct Vector {
 }
 
 /// An opcode with its prefixes.
-#[derive(Clone, Copy, Debug, PartialEq, Eq)]
+#[derive(Clone, Copy)]
 pub struct Opcode {
     pub prefixes: Prefixes,
     pub map: Map,
@@ -93,7 +93,7 @@ pub struct Opcode {
 }
 
 /// The bytes of a memory operand, or of two registers.
-#[derive(Clone, Copy, Debug, PartialEq, Eq)]
+#[derive(Clone, Copy)]
 pub struct Address {
     /// The ModRM byte, or 0.
     pub modrm: u8,
@@ -104,7 +104,7 @@ pub struct Address {
 }
 
 /// The parts of an instruction.
-#[derive(Clone, Copy, Debug, PartialEq, Eq)]
+#[derive(Clone, Copy)]
 pub struct Parts {
     pub opcode: Opcode,
     pub address: Address,

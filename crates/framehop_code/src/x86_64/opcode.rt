@@ -15,7 +15,7 @@ use Operation::{
 };
 
 /// How many bytes of an immediate operand follow.
-#[derive(Clone, Copy, Debug, PartialEq, Eq)]
+#[derive(Clone, Copy)]
 pub enum Immediate {
     /// One byte.
     Byte,
@@ -38,7 +38,7 @@ pub enum Immediate {
 }
 
 /// What follows an opcode.
-#[derive(Clone, Copy, Debug, PartialEq, Eq)]
+#[derive(Clone, Copy)]
 pub enum Operands {
     /// Nothing.
     Bare,
@@ -51,7 +51,7 @@ pub enum Operands {
 }
 
 /// A register operand.
-#[derive(Clone, Copy, Debug, PartialEq, Eq)]
+#[derive(Clone, Copy)]
 pub enum Operand {
     /// None.
     Nothing,
@@ -70,7 +70,7 @@ pub enum Operand {
 }
 
 /// What an instruction does.
-#[derive(Clone, Copy, Debug, PartialEq, Eq)]
+#[derive(Clone, Copy)]
 pub enum Operation {
     /// Writes no general register by its operands.
     Keep,
@@ -135,7 +135,7 @@ pub enum Operation {
 }
 
 /// The opcodes from a first to a last one.
-#[derive(Clone, Copy, Debug, PartialEq, Eq)]
+#[derive(Clone, Copy)]
 pub struct Opcodes(pub u8, pub u8, pub Operands, pub Operation);
 
 /// Each six opcodes below 38 with one operation, by their low three bits: ADD, OR, ADC, SBB, AND, SUB and XOR.

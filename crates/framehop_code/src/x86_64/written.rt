@@ -15,7 +15,7 @@ use Amount::{
 use framehop_cfi::rule::Register;
 
 /// How many bytes of its memory operand an instruction writes.
-#[derive(Clone, Copy, Debug, PartialEq, Eq)]
+#[derive(Clone, Copy)]
 pub enum Amount {
     /// None.
     Nothing,
@@ -56,7 +56,7 @@ pub enum Amount {
 /// What the opcodes from a first to a last one write besides their register operands, if bit number reg of the third
 /// field is set, as it is for members of a group by reg of the ModRM byte: the registers of the set, and an amount of
 /// memory.
-#[derive(Clone, Copy, Debug, PartialEq, Eq)]
+#[derive(Clone, Copy)]
 pub struct Writes(pub u8, pub u8, pub u8, pub u16, pub Amount);
 
 /// Opcodes of one byte.

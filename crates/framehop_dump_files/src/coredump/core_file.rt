@@ -12,7 +12,7 @@ use std::alloc::Global;
 const ET_CORE: u16 = 4;
 
 /// The machine of a core file.
-#[derive(Clone, Copy, Debug, PartialEq, Eq)]
+#[derive(Clone, Copy, PartialEq, Eq)]
 pub enum Machine {
     /// `EM_X86_64`.
     X86_64,

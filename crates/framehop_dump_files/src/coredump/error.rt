@@ -6,7 +6,7 @@ use std::alloc::AllocError;
 use thiserror::Error;
 
 /// Why a core file, or a note of it, can't be read. Each offset is in bytes from the start of the file.
-#[derive(Clone, Copy, Debug, PartialEq, Eq, Error)]
+#[derive(Clone, Copy, Debug, Error)]
 pub enum CoreFileError {
     /// The ELF header or the program headers can't be read, or the file ends before a segment of notes
     /// does.

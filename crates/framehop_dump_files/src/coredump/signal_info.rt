@@ -10,7 +10,7 @@ use framehop_bytes::bytes::{u32_at, u64_at};
 const SIGINFO_SIZE: usize = 128;
 
 /// What is told of a signal: `siginfo_t`.
-#[derive(Clone, Copy, Debug, PartialEq, Eq)]
+#[derive(Clone, Copy)]
 pub struct SignalInfo {
     /// Its number: `si_signo`.
     pub signal: u32,

@@ -15,7 +15,7 @@ const EXCEPTION_STREAM: u32 = 6;
 const EXCEPTION_SIZE: usize = 168;
 
 /// Why a minidump was made: `MINIDUMP_EXCEPTION_STREAM`.
-#[derive(Clone, Copy, Debug, PartialEq, Eq)]
+#[derive(Clone, Copy)]
 pub struct Exception {
     /// The thread that crashed: `ThreadId`.
     pub tid: u32,

@@ -16,7 +16,7 @@ const MINIDUMP_VERSION: u16 = 0xa793;
 const HEADER_SIZE: u64 = 32;
 
 /// The header of a minidump: `MINIDUMP_HEADER`.
-#[derive(Clone, Copy, Debug, PartialEq, Eq)]
+#[derive(Clone, Copy)]
 pub struct Header {
     /// How many streams there are: `NumberOfStreams`.
     pub stream_count: u32,

@@ -7,7 +7,7 @@ use framehop_bytes::block;
 use framehop_bytes::bytes::u32_at;
 
 /// Where a part of the file is: `MINIDUMP_LOCATION_DESCRIPTOR`.
-#[derive(Clone, Copy, Debug, PartialEq, Eq)]
+#[derive(Clone, Copy, PartialEq, Eq)]
 pub struct Location {
     /// Its size, in bytes: `DataSize`.
     pub size: u32,

@@ -17,7 +17,7 @@ const MODULE_LIST_STREAM: u32 = 4;
 const ENTRY_SIZE: usize = 108;
 
 /// A module: `MINIDUMP_MODULE`.
-#[derive(Clone, Copy, Debug, PartialEq, Eq)]
+#[derive(Clone, Copy, PartialEq, Eq)]
 pub struct Module {
     /// Its first address (AVMA): `BaseOfImage`.
     pub base: u64,

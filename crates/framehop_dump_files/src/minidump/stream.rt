@@ -13,7 +13,7 @@ use std::alloc::{AllocError, Global};
 const ENTRY_SIZE: usize = 12;
 
 /// A stream: `MINIDUMP_DIRECTORY`.
-#[derive(Clone, Copy, Debug, PartialEq, Eq)]
+#[derive(Clone, Copy, PartialEq, Eq)]
 pub struct Stream {
     /// What it has, a number of `MINIDUMP_STREAM_TYPE`: `StreamType`.
     pub stream_type: u32,

@@ -23,7 +23,7 @@ const ARM64_OLD: u16 = 0x8003;
 const FIELDS_SIZE: usize = 24;
 
 /// The machine of a minidump.
-#[derive(Clone, Copy, Debug, PartialEq, Eq)]
+#[derive(Clone, Copy, PartialEq, Eq)]
 pub enum Machine {
     /// `PROCESSOR_ARCHITECTURE_AMD64`.
     X86_64,
@@ -32,7 +32,7 @@ pub enum Machine {
 }
 
 /// On what the process ran: `MINIDUMP_SYSTEM_INFO`.
-#[derive(Clone, Copy, Debug, PartialEq, Eq)]
+#[derive(Clone, Copy)]
 pub struct SystemInfo {
     /// Its machine: `ProcessorArchitecture`.
     pub machine: Machine,

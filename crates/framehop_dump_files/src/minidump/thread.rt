@@ -19,7 +19,7 @@ const THREAD_LIST_STREAM: u32 = 3;
 const ENTRY_SIZE: usize = 48;
 
 /// A thread, as it was when the minidump was made: `MINIDUMP_THREAD`.
-#[derive(Clone, Copy, Debug, PartialEq, Eq)]
+#[derive(Clone, Copy)]
 pub struct Thread {
     /// The thread: `ThreadId`.
     pub tid: u32,

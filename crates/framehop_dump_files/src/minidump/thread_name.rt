@@ -16,7 +16,7 @@ const THREAD_NAMES_STREAM: u32 = 24;
 const ENTRY_SIZE: usize = 12;
 
 /// Where the name of a thread is: `MINIDUMP_THREAD_NAME`.
-#[derive(Clone, Copy, Debug, PartialEq, Eq)]
+#[derive(Clone, Copy)]
 pub struct ThreadName {
     /// The thread: `ThreadId`.
     pub tid: u32,

@@ -1,7 +1,7 @@
 //! How a flame graph is drawn.
 
 /// Which way the boxes go.
-#[derive(Clone, Copy, Debug, PartialEq, Eq)]
+#[derive(Clone, Copy)]
 pub enum Layout {
     /// The outermost frames are at the top, and each frame is above those that it calls.
     Icicle,

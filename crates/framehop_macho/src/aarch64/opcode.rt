@@ -4,7 +4,7 @@ ghost use Rattle.std.specs.Prelude.{◌≡◌};
 ghost use Rattle.framehop_macho.specs.Aarch64.{opcode_of};
 
 /// How to unwind from a function.
-#[derive(Clone, Copy, Debug, PartialEq, Eq)]
+#[derive(Clone, Copy)]
 pub enum OpcodeArm64 {
     /// The function has no info.
     Null,

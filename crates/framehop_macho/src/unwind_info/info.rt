@@ -10,7 +10,7 @@ use super::table::{IndexEntries, part, row_of_address};
 use framehop_bytes::bytes::u32_at;
 
 /// A function that `__unwind_info` describes.
-#[derive(Clone, Copy, Debug, PartialEq, Eq)]
+#[derive(Clone, Copy, PartialEq, Eq)]
 pub struct Function {
     /// Where it begins, a relative address.
     pub start_address: u32,
@@ -88,7 +88,7 @@ impl<'a> UnwindInfo<'a> {
 }
 
 /// A page as the index describes it.
-#[derive(Clone, Copy, Debug, PartialEq, Eq)]
+#[derive(Clone, Copy)]
 pub(crate) struct PageEntry {
     /// Where its first function begins, a relative address.
     pub page_address: u32,

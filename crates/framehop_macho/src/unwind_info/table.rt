@@ -23,7 +23,7 @@ pub(crate) fn part(bytes: &[u8], from: usize, size: usize) -> Result<&[u8], Comp
 
 /// A row of a table: its index, where it begins, and where the row after it begins, if there is
 /// one (relative addresses, which in a table that is not valid can be above 32 bits).
-#[derive(Clone, Copy, Debug, PartialEq, Eq)]
+#[derive(Clone, Copy, PartialEq, Eq)]
 pub struct Row {
     pub index: usize,
     pub start: u64,

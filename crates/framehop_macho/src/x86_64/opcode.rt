@@ -7,7 +7,7 @@ ghost use Rattle.framehop_macho.specs.X86_64.{opcode_of, saved_in};
 use super::saved_registers::{bp_position, saved_registers};
 
 /// How to unwind from a function.
-#[derive(Clone, Copy, Debug, PartialEq, Eq)]
+#[derive(Clone, Copy)]
 pub(crate) enum OpcodeX86_64 {
     /// The function has no info.
     Null,

@@ -5,7 +5,7 @@ ghost use Rattle.framehop_macho.specs.SavedRegisters.{list_count, saved_register
 use arrayvec::ArrayVec;
 
 /// A register that a frameless function can save.
-#[derive(Clone, Copy, Debug, Default, PartialEq, Eq)]
+#[derive(Clone, Copy, Default, PartialEq, Eq)]
 pub(crate) enum RegisterNameX86_64 {
     #[default]
     Rbx,

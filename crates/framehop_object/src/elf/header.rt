@@ -28,7 +28,7 @@ const EV_CURRENT: u8 = 1;
 pub const HEADER_SIZE: u64 = 64;
 
 /// The ELF header: `Elf64_Ehdr`.
-#[derive(Clone, Copy, Debug, PartialEq, Eq)]
+#[derive(Clone, Copy, PartialEq, Eq)]
 pub struct FileHeader {
     /// Which kind of object it is.
     pub e_type: u16,

@@ -20,7 +20,7 @@ const PN_XNUM: u16 = 0xffff;
 pub const ENTRY_SIZE: usize = 56;
 
 /// A program header: `Elf64_Phdr`.
-#[derive(Clone, Copy, Debug, PartialEq, Eq)]
+#[derive(Clone, Copy, PartialEq, Eq)]
 pub struct ProgramHeader {
     /// What the segment is.
     pub p_type: u32,

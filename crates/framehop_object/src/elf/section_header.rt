@@ -13,7 +13,7 @@ use std::alloc::{AllocError, Global};
 pub const ENTRY_SIZE: usize = 64;
 
 /// A section header: `Elf64_Shdr`.
-#[derive(Clone, Copy, Debug, PartialEq, Eq)]
+#[derive(Clone, Copy, PartialEq, Eq)]
 pub struct SectionHeader {
     /// Where the name begins in the section of names, in bytes.
     pub sh_name: u32,

@@ -30,7 +30,7 @@ const SHN_UNDEF: u16 = 0;
 const ENTRY_SIZE: usize = 24;
 
 /// The symbol of a function or of a label: `Elf64_Sym`.
-#[derive(Clone, Copy, Debug, PartialEq, Eq)]
+#[derive(Clone, Copy)]
 pub struct Symbol {
     /// Where its name begins in the string table of the symbol table, in bytes.
     pub st_name: u32,

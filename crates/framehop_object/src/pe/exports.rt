@@ -19,7 +19,7 @@ const ADDRESS_SIZE: usize = 4;
 const ORDINAL_SIZE: usize = 2;
 
 /// A function, or data, that a file exports.
-#[derive(Clone, Copy, Debug, PartialEq, Eq)]
+#[derive(Clone, Copy)]
 pub struct Export {
     /// Where its name begins, in bytes from the start of the export directory. It ends before a 0.
     pub name: u32,

@@ -43,7 +43,7 @@ const EXCEPTION: usize = 3;
 const DEBUG: usize = 6;
 
 /// The machine of a file.
-#[derive(Clone, Copy, Debug, PartialEq, Eq)]
+#[derive(Clone, Copy, PartialEq, Eq)]
 pub enum Machine {
     /// `IMAGE_FILE_MACHINE_AMD64`.
     X86_64,
@@ -54,7 +54,7 @@ pub enum Machine {
 }
 
 /// Where a table of the image is: `IMAGE_DATA_DIRECTORY`.
-#[derive(Clone, Copy, Debug, PartialEq, Eq)]
+#[derive(Clone, Copy, PartialEq, Eq)]
 pub struct DataDirectory {
     /// Its first address (RVA).
     pub virtual_address: u32,
@@ -64,7 +64,7 @@ pub struct DataDirectory {
 
 /// The fields that are read of the COFF header and the optional header. A module of a minidump has
 /// `time_date_stamp` and `size_of_image` of its file, and a symbol server keeps the file under both.
-#[derive(Clone, Copy, Debug, PartialEq, Eq)]
+#[derive(Clone, Copy, PartialEq, Eq)]
 pub struct FileHeader {
     /// Its machine: `Machine`.
     pub machine: Machine,

@@ -13,7 +13,7 @@ use std::alloc::{AllocError, Global};
 const ENTRY_SIZE: usize = 40;
 
 /// A section header: `IMAGE_SECTION_HEADER`.
-#[derive(Clone, Copy, Debug, PartialEq, Eq)]
+#[derive(Clone, Copy, PartialEq, Eq)]
 pub struct SectionHeader {
     /// Its name, filled up with zeros: `Name`.
     pub name: [u8; 8],

@@ -15,7 +15,7 @@ use std::ops::Range;
 
 /// The sections of a PE module that unwinding reads: where they are (SVMA), and their data. Data is taken out
 /// of its field when it is asked for.
-#[derive(Debug, PartialEq, Eq, Drop)]
+#[derive(Drop)]
 pub struct PeUnwindSections<D> {
     /// The address that the image is linked for.
     pub base_svma: u64,

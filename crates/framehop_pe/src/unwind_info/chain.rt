@@ -17,7 +17,7 @@ use framehop_bytes::section::SectionBytes;
 const MAX_CHAINED_INFOS: u8 = 32;
 
 /// What operations count from in the frame whose prolog they undo.
-#[derive(Clone, Copy, Debug, PartialEq, Eq)]
+#[derive(Clone, Copy)]
 pub struct FrameBase {
     /// The frame register of the info that has the operation.
     pub frame_register: Option<FrameRegister>,
@@ -26,7 +26,7 @@ pub struct FrameBase {
 }
 
 /// An operation, and what it counts from.
-#[derive(Clone, Copy, Debug, PartialEq, Eq)]
+#[derive(Clone, Copy)]
 pub struct FramedOperation {
     /// The operation.
     pub operation: UnwindOperation,

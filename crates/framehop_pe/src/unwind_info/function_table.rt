@@ -5,7 +5,7 @@ ghost use Rattle.framehop_pe.specs.FunctionTable.{function_at, function_of, star
 use framehop_bytes::place::{Starts, place};
 
 /// An entry of the function table.
-#[derive(Clone, Copy, Debug, PartialEq, Eq)]
+#[derive(Clone, Copy, PartialEq, Eq)]
 pub struct RuntimeFunction {
     /// Where the function begins, a relative address.
     pub begin_address: u32,

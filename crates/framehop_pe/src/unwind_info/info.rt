@@ -13,7 +13,7 @@ use framehop_core::x86_64::Reg;
 const UNW_FLAG_CHAININFO: u8 = 4;
 
 /// The frame register of unwind info: the frame's base is its value less the offset.
-#[derive(Clone, Copy, Debug, PartialEq, Eq)]
+#[derive(Clone, Copy)]
 pub struct FrameRegister {
     /// The register.
     pub register: Reg,

@@ -42,7 +42,7 @@ const UWOP_SAVE_XMM128_FAR: u8 = 9;
 const UWOP_PUSH_MACHFRAME: u8 = 10;
 
 /// A code: where its instruction ends in the prolog, and what undoes it.
-#[derive(Clone, Copy, Debug, PartialEq, Eq)]
+#[derive(Clone, Copy)]
 pub struct UnwindCode {
     /// The offset of the instruction's end from the function's begin, in bytes.
     pub offset_in_prolog: u8,
