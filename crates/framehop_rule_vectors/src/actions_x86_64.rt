@@ -528,9 +528,10 @@ const VECTORS: [Row; 6] = [
     ),
 ];
 
-/// Returns the first row of which something else is told.
-fn wrong(rows: &[Row]) -> Option<Row> {
-    rows.iter().copied().find(|row| !is_told(row.0, row.1))
+/// Returns the code of the first row of which something else is told.
+fn wrong(rows: &[Row]) -> Option<&'static [u8]> {
+    let row = rows.iter().find(|row| !is_told(row.0, row.1))?;
+    Some(row.0)
 }
 
 /// Returns whether an action is told of an instruction that has all bytes of its code.

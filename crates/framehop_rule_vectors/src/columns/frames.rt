@@ -22,7 +22,7 @@ pub(crate) struct Section {
 }
 
 /// Why a frame has no caller by an FDE.
-#[derive(Clone, Copy, Debug, PartialEq, Eq)]
+#[derive(Clone, Copy, PartialEq, Eq)]
 pub(crate) enum NoCaller {
     /// No FDE can be read at the offset.
     NoFde,
