@@ -78,18 +78,21 @@ def code_file(size):
 
 
 def file_of_parts(code, segments, sections):
-    """An ELF file with code after its header, and with as many further segments and sections, which lie far above it. The code is
-    in the last segment."""
+    """An ELF file with code after its header, above the FDE of its `.eh_frame`, and with as many further segments and
+    sections, which lie far above it. The code is in the last segment."""
     headers_at = 64 + len(code)
     table_at = headers_at + 56 * (segments + 1)
-    end = table_at + 64 * (sections + 2)
+    end = table_at + 64 * (sections + 3)
+    names = b"\0.eh_frame\0"
+    frames = struct.pack("<II", 16, 0) + b"\1\0\1\x78\x10\x0c\7\x08\x90\1\0\0" + struct.pack("<IIQQI", 20, 24, 0, 8, 0)
     load = lambda start, offset, size: struct.pack("<IIQQQQQQ", 1, 5, offset, start, start, size, size, 1)
-    section = lambda kind, start, size: struct.pack("<IIQQQQIIQQ", 0, kind, 2, start, end, size, 0, 0, 1, 0)
+    section = lambda name, kind, start, at, size: struct.pack("<IIQQQQIIQQ", name, kind, 2, start, at, size, 0, 0, 1, 0)
     headers = [load(0x4000_0000 + 8 * number, end, 8) for number in range(segments)] + [load(0, 0, headers_at)]
-    table = [section(0, 0, 0), section(3, 0, 1)] + [section(1, 0x6000_0000 + 8 * number, 8) for number in range(sections)]
+    table = [section(0, 0, 0, 0, 0), section(0, 3, 0, end + len(frames), len(names)), section(1, 1, 0x5000_0000, end, len(frames))]
+    table += [section(0, 1, 0x6000_0000 + 8 * number, end, 8) for number in range(sections)]
     head = b"\x7fELF\2\1\1" + bytes(9)
     head += struct.pack("<HHIQQQIHHHHHH", 3, 62, 1, 0, headers_at, table_at, 0, 64, 56, len(headers), 64, len(table), 1)
-    return head + code + b"".join(headers) + b"".join(table) + bytes(8)
+    return head + code + b"".join(headers) + b"".join(table) + frames + names
 
 
 def build_id_record(name, at):

@@ -1,7 +1,6 @@
 #!/usr/bin/env python3
 """try_recordings.py PROGRAM [KIND..]: runs framehop-stacks on recordings of 4,000, 8,000 and 16,000 items of each kind of recordings.py,
-as runner.py says. Of a kind in SQUARES growth is only printed: there each sample has a list of modules of its own, which is compared
-with the one before, or each mapping moves those after it.
+as runner.py says. Of a kind in SQUARES growth is only printed: each mapping moves those after it.
 """
 import os
 import sys
@@ -10,7 +9,7 @@ from pathlib import Path
 from recordings import KINDS
 from runner import try_kinds
 
-SQUARES = ("forks-map-sampled", "forks-map-apart-sampled", "maps-down-sampled")
+SQUARES = ("maps-down-sampled",)
 
 
 def main():
